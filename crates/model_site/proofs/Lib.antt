@@ -3,5 +3,6 @@ mod ReplicaExamples
 mod RefusedExamples
 mod EntryExamples
 mod SiteExamples
+mod UntoldExamples
 mod JoinedExamples
 mod SessionExamples

@@ -23,7 +23,7 @@ abbrev or_same : {F : Type 0} → Site → Result Site F → Site
 or_same s (Ok t) = t
 or_same s (Err f) = s
 
-abbrev undone : Site → Site
+abbrev pub undone : Site → Site
 undone s = or_same s (undo s)
 
 abbrev redone : Site → Site
@@ -42,7 +42,7 @@ both_go = refl
 first_comes : (redone (undone (undone with_ab))).replica.items ≡ page (codes "a")
 first_comes = refl
 
-as_before : redone (redone (undone (undone with_ab))) ≡ with_ab
+as_before : record (redone (redone (undone (undone with_ab)))) { untold = with_ab.untold } ≡ with_ab
 as_before = refl
 
 nothing_undone : redo with_ab ≡ Err NothingToRedo

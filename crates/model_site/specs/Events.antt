@@ -3,13 +3,15 @@
 use Rattle.std.specs.Prelude.{ℕ, List, [], ◌∷◌, ◌++◌, slice_get, Option, Some, None, Result, Ok, Err}
 use Rattle.model_change.specs.Transaction.{Transaction}
 use Rattle.model_edit.specs.declared.selection.Selection.{Selection}
-use Rattle.model_site.specs.Site.{Site, with_entry, with_selection, undo, redo, send, revoke_entry, Submission}
+use Rattle.model_site.specs.Site.{Site, with_entry, with_selection, with_told, undo, redo, send, revoke_entry, Submission}
 use Rattle.model_site.specs.Session.{Member, Session, with_member, serve_next, take_next}
 
 pub data Event : Type 0 where
   -- transactions performed as one entry: a change, a batch or typing
   Perform : (k : ℕ) (ts : List Transaction) → Event
   Select : (k : ℕ) (selection : Selection) → Event
+  -- what changed is told
+  Tell : (k : ℕ) → Event
   Undo : (k : ℕ) → Event
   Redo : (k : ℕ) → Event
   -- an entry of those that the site knows, taken back
@@ -44,6 +46,7 @@ at_member w (Some m) f = f m
 abbrev pub happens : Session → Event → Session
 happens w (Perform k ts) = at_member w (slice_get w.members k) (λ m. with_site k m (with_entry ts m.site) w)
 happens w (Select k selection) = at_member w (slice_get w.members k) (λ m. with_site k m (with_selection selection m.site) w)
+happens w (Tell k) = at_member w (slice_get w.members k) (λ m. with_site k m (with_told m.site) w)
 happens w (Undo k) = at_member w (slice_get w.members k) (λ m. with_site_of k m (undo m.site) w)
 happens w (Redo k) = at_member w (slice_get w.members k) (λ m. with_site_of k m (redo m.site) w)
 happens w (Revoke k i) = at_member w (slice_get w.members k) (λ m. with_site_of k m (revoke_entry w.committed i m.site) w)

@@ -1,3 +1,4 @@
+pub mod Untold
 pub mod Replica
 pub mod Causes
 pub mod Refused

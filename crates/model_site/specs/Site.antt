@@ -2,15 +2,20 @@
 use Rattle.std.specs.Prelude.{ℕ, ◌+◌, ◌==◌, if◌then◌else◌, List, [], ◌∷◌, ◌++◌, length, take, Option, Some, None, Result, Ok, Err}
 use Rattle.model_change.specs.Transaction.{Transaction}
 use Rattle.model_change.specs.Join.{RangeConflict}
-use Rattle.model_change.specs.Replay.{revoke}
+use Rattle.model_change.specs.Replay.{reversal, revoke}
 use Rattle.model_edit.specs.declared.selection.Selection.{Selection}
 use Rattle.model_site.specs.Causes.{EditCause, UndoCause, NothingToUndo, AlreadyShared, RedoCause, NothingToRedo, SendCause, InFlight, NothingToSend}
 use Rattle.model_site.specs.Replica.{Replica, all_performed}
+use Rattle.model_site.specs.Untold as untold
+use Rattle.model_site.specs.Untold.{Untold, all_untold, none_untold, passed}
+use Rattle.model_site.specs.declared.patch.Patch.{Patch}
 use Rattle.model_site.specs.Refused.{edit_cause}
 use Rattle.model_site.specs.Entries.{Parcel, Entry, parcels, entry_of, reverted}
 
 pub record Site : Type 0 where
   pub replica : Replica
+  -- what it has not told yet of how its list changed
+  pub untold : Untold
   -- how many committed entries its list has
   pub seen : ℕ
   -- its own entries that it sent and has no answer for, and those that it has not sent, oldest
@@ -26,7 +31,7 @@ pub record Site : Type 0 where
 
 -- a site as it begins
 abbrev pub starting : Replica → Site
-starting r = record { replica = r; seen = 0; sent = []; unsent = []; undone = []; shared = 0; in_flight = None }
+starting r = record { replica = r; untold = all_untold (length r.items); seen = 0; sent = []; unsent = []; undone = []; shared = 0; in_flight = None }
 
 -- its pending entries: the sent ones and then the unsent
 abbrev pub pending : Site → List Entry
@@ -35,11 +40,20 @@ pending site = site.sent ++ site.unsent
 abbrev pub with_selection : Selection → Site → Site
 with_selection selection site = record site { replica = record site.replica { selection = selection } }
 
+-- what it tells whoever keeps a copy of its list
+abbrev pub told : Site → List Patch
+told site = untold.told (length site.replica.items) site.untold
+
+-- a site that has told it
+abbrev pub with_told : Site → Site
+with_told site = record site { untold = none_untold (length site.replica.items) }
+
 -- transactions performed as one new entry: a change, a batch, typing, or what takes another entry
 -- back
 abbrev pub with_entry : List Transaction → Site → Site
 with_entry ts site = record site {
   replica = all_performed ts site.replica;
+  untold = passed ts site.untold;
   unsent = site.unsent ++ entry_of ts site.replica ∷ [];
   undone = [];
 }
@@ -56,10 +70,18 @@ abbrev pub init_and_last : Entry → List Entry → List Entry × Entry
 init_and_last e [] = ([], e)
 init_and_last e (f ∷ es) = let r = init_and_last f es in (e ∷ r.0, r.1)
 
+-- the last unsent entry taken back, so that these are left
+abbrev pub with_undone : (last : Entry) (left : List Entry) → Site → Site
+with_undone last left site = record site {
+  replica = reverted last site.replica;
+  untold = passed (reversal last.txs) site.untold;
+  unsent = left;
+  undone = last.txs ∷ site.undone;
+}
+
 abbrev pub undo_last : List Entry → Site → Result Site UndoCause
 undo_last [] site = Err (if site.shared == 0 then NothingToUndo else AlreadyShared site.shared)
-undo_last (e ∷ es) site = let p = init_and_last e es in
-    Ok (record site { replica = reverted p.1 site.replica; unsent = p.0; undone = p.1.txs ∷ site.undone })
+undo_last (e ∷ es) site = let p = init_and_last e es in Ok (with_undone p.1 p.0 site)
 
 -- the last unsent entry is taken back
 abbrev pub undo : Site → Result Site UndoCause

@@ -1,7 +1,9 @@
 -- Taking from a queue: foreign entries, joined over the site's pending ones, and the answer to what
 -- it sent.
-use Rattle.std.specs.Prelude.{ℕ, suc, ◌+◌, List, [], ◌∷◌, length, map, take, drop, None}
+use Rattle.std.specs.Prelude.{ℕ, suc, ◌+◌, List, [], ◌∷◌, length, map, take, drop, ◌++◌, None}
+use Rattle.model_change.specs.Replay.{flattened, reversal}
 use Rattle.model_site.specs.Replica.{all_performed}
+use Rattle.model_site.specs.Untold.{passed}
 use Rattle.model_site.specs.Entries.{Parcel, Entry, parcels, all_reverted}
 use Rattle.model_site.specs.Site.{Site, pending}
 use Rattle.model_site.specs.Joined.{Joined, join_entries}
@@ -15,10 +17,12 @@ parcel_entries stored = map (λ (p : Parcel). record { txs = p; store_before = s
 -- performed over those kept; and these are joined over it.
 abbrev pub with_joined : Joined → Site → Site
 with_joined j site =
-    let replica = all_performed j.committed (all_reverted (drop (length j.kept) (pending site)) site.replica) in
+    let dropped = drop (length j.kept) (pending site) in
+    let replica = all_performed j.committed (all_reverted dropped site.replica) in
     let kept = parcel_entries (length replica.store) j.kept in
     record site {
       replica = replica;
+      untold = passed (reversal (flattened (parcels dropped)) ++ j.committed) site.untold;
       seen = suc site.seen;
       sent = take (length site.sent) kept;
       unsent = drop (length site.sent) kept;

@@ -2,6 +2,7 @@
 //! result for a site, the committed entries and the queues between them. It knows no page text and
 //! no script. There are definitions in specs/, and the types that they answer:
 //!
+//! - `Untold`: what a site has not told yet of how its list changed;
 //! - `Replica`: a site's list with its store and selection, and what performing a transaction and
 //!   taking one back makes of them;
 //! - `Causes`, `Refused`: why a transaction is not performed, and why a site does not undo, redo or
@@ -18,6 +19,10 @@
 //! Edit, batch, typing and revoking are one thing: a list of transactions that is performed as one
 //! entry, and travels by value.
 //!
+//! What a site tells of its list are patches, each over the list that those before it gave. An
+//! attribute operation is one too, and so is each operation of a reversal. The list as it is opened is
+//! the first patch.
+//!
 //! Undone entries survive sending, and a redo after it makes a new unsent entry. Any take forgets
 //! them. A submission stays in flight with the number submitted, also where a take has dropped some
 //! of it.
@@ -27,11 +32,13 @@
 #![tactic(auto)]
 
 mod edit_fault;
+mod patch;
 mod served;
 mod site_fault;
 mod taken;
 
 pub use edit_fault::EditFault;
+pub use patch::{MAX_PATCHES, Patch};
 pub use served::{Clash, Served};
 pub use site_fault::{RedoFault, SendFault, UndoFault};
 pub use taken::Taken;

@@ -9,11 +9,11 @@ use Rattle.model_change.specs.Replay.{reversal, revoke}
 use Rattle.model_change.specs.Store.{brought, changed_heads}
 use Rattle.model_change.specs.Transaction.{Transaction}
 use Rattle.model_site.specs.Entries.{Entry, Parcel, all_reverted, entry_of, parcels, reverted}
-use Rattle.model_site.specs.Events.{Event, Perform, Redo, Revoke, Select, Send, Serve, Take, Undo, after_turn, at_member, happens, run, with_sent, with_site_of}
+use Rattle.model_site.specs.Events.{Event, Perform, Redo, Revoke, Select, Send, Serve, Take, Tell, Undo, after_turn, at_member, happens, run, with_sent, with_site_of}
 use Rattle.model_site.specs.Joined.{join_entries}
 use Rattle.model_site.specs.Replica.{Replica, all_performed, all_put_back, performed, put_back}
 use Rattle.model_site.specs.Session.{Ack, SiteFeed, Foreign, Member, Session, all_fed, joining, put_member, serve_first, started, take_first}
-use Rattle.model_site.specs.Site.{Site, Submission, entries_of, init_and_last, pending, redo_first, revoke_by, send_unless, undo_last, with_entry, with_selection}
+use Rattle.model_site.specs.Site.{Site, Submission, entries_of, init_and_last, with_undone, pending, redo_first, revoke_by, send_unless, undo_last, with_entry, with_selection, with_told}
 use Rattle.model_site.specs.Take.{parcel_entries, take_ack, take_entry, take_foreign}
 use Rattle.model_site_law.specs.Protocol.{Every}
 use Rattle.model_site_law.specs.StoreLaws.{BeginsWith, StoreBegins}
@@ -120,13 +120,13 @@ module _ (first : List Value) where
 
   -- the last of the unsent entries is taken back
   last_begins : (x : Entry) (es : List Entry) (s : Site) → x ∷ es ≡ s.unsent → BeginsWith first s →
-      let p = init_and_last x es in BeginsWith first (record s { replica = reverted p.1 s.replica; unsent = p.0; undone = p.1.txs ∷ s.undone })
+      let p = init_and_last x es in BeginsWith first (with_undone p.1 p.0 s)
   last_begins x es s unsent b =
       let p = init_and_last x es in
       let parts : pending s ≡ (s.sent ++ p.0) ++ p.1 ∷ [] =
       ap (λ us. s.sent ++ us) (sym (parted_is x es ∙ unsent)) ∙ sym (append_assoc s.sent p.0 (p.1 ∷ [])) in
       let all = subst (All Since) parts b.since in
-      begins_of (record s { replica = reverted p.1 s.replica; unsent = p.0; undone = p.1.txs ∷ s.undone })
+      begins_of (with_undone p.1 p.0 s)
       (reverted_begins p.1 s.replica (later (s.sent ++ p.0) p.1 all) (as_grown s b)) (earlier (s.sent ++ p.0) p.1 all)
     where
       later : (fs : List Entry) (e : Entry) → All Since (fs ++ e ∷ []) → Since e
@@ -165,7 +165,7 @@ module _ (first : List Value) where
     undo_begins m b [] e = all
     undo_begins m b (x ∷ es) e =
         let p = init_and_last x es in
-        let site = record m.site { replica = reverted p.1 m.site.replica; unsent = p.0; undone = p.1.txs ∷ m.site.undone } in
+        let site = with_undone p.1 p.0 m.site in
         put (record m { site = site }) (last_begins x es m.site e b)
 
     redo_begins : (m : Member) → Begins m → (us : List Parcel) → After (with_site_of k m (redo_first us m.site) w)
@@ -203,6 +203,8 @@ module _ (first : List Value) where
   event_begins w (Select k s) all =
       at_site w k all _ (λ m b.
       let site = with_selection s m.site in put w k all (record m { site = site }) (same_begins m.site site refl refl b))
+  event_begins w (Tell k) all =
+      at_site w k all _ (λ m b. let site = with_told m.site in put w k all (record m { site = site }) (same_begins m.site site refl refl b))
   event_begins w (Undo k) all = at_site w k all _ (λ m b. undo_begins w k all m b m.site.unsent refl)
   event_begins w (Redo k) all = at_site w k all _ (λ m b. redo_begins w k all m b m.site.undone)
   event_begins w (Revoke k i) all =

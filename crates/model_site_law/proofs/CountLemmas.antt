@@ -2,7 +2,7 @@
 use Rattle.std.proofs.Common.{◌≡◌, ℕ, zero, suc, List, [], ◌∷◌, length, replicate, slice_get, Option, Some, None, Result, Ok, Err, refl, ap, ◌∙◌, arith}
 use Rattle.std.proofs.lemmas.List.{length-append}
 use Rattle.model_site.specs.Entries.{Parcel}
-use Rattle.model_site.specs.Events.{Event, Perform, Redo, Revoke, Select, Send, Serve, Take, Undo, after_turn, at_member, happens, run, with_sent, with_site_of}
+use Rattle.model_site.specs.Events.{Event, Perform, Redo, Revoke, Select, Send, Serve, Take, Tell, Undo, after_turn, at_member, happens, run, with_sent, with_site_of}
 use Rattle.model_site.specs.Session.{SiteFeed, Member, Session, all_fed, joining, put_member, serve_first, started, take_first}
 use Rattle.model_site.specs.Site.{Site, Submission, redo, revoke_entry, send, undo}
 use Rattle.model_site_law.specs.Laws.{SeenIsCommitted, SitesStay}
@@ -56,6 +56,7 @@ count_taken w k m (f ∷ later) = length-put k _ w.members
 count_stays : (w : Session) (e : Event) → length (happens w e).members ≡ length w.members
 count_stays w (Perform k ts) = count_at w (slice_get w.members k) _ (λ m. length-put k _ w.members)
 count_stays w (Select k s) = count_at w (slice_get w.members k) _ (λ m. length-put k _ w.members)
+count_stays w (Tell k) = count_at w (slice_get w.members k) _ (λ m. length-put k _ w.members)
 count_stays w (Undo k) = count_at w (slice_get w.members k) _ (λ m. count_result w k m (undo m.site))
 count_stays w (Redo k) = count_at w (slice_get w.members k) _ (λ m. count_result w k m (redo m.site))
 count_stays w (Revoke k i) = count_at w (slice_get w.members k) _ (λ m. count_result w k m (revoke_entry w.committed i m.site))

@@ -9,10 +9,10 @@ use Rattle.model_change.specs.Replay.{AllRun, flattened, replay, revoke}
 use Rattle.model_change.specs.Store.{cited}
 use Rattle.model_change.specs.Transaction.{Transaction}
 use Rattle.model_site.specs.Entries.{Entry, Parcel, entry_of, parcels, reverted}
-use Rattle.model_site.specs.Events.{Event, Perform, Redo, Revoke, Select, Send, Serve, Take, Undo, after_turn, at_member, happens, run, with_sent, with_site, with_site_of}
+use Rattle.model_site.specs.Events.{Event, Perform, Redo, Revoke, Select, Send, Serve, Take, Tell, Undo, after_turn, at_member, happens, run, with_sent, with_site, with_site_of}
 use Rattle.model_site.specs.Replica.{Replica, all_filled, all_performed}
 use Rattle.model_site.specs.Session.{Ack, SiteFeed, Foreign, Member, Session, all_fed, joining, put_member, serve_first, serve_next, started, take_first, take_next}
-use Rattle.model_site.specs.Site.{Site, Submission, entries_of, init_and_last, pending, redo, redo_first, revoke_by, revoke_entry, send, send_unless, undo, undo_last, with_entry, with_selection}
+use Rattle.model_site.specs.Site.{Site, Submission, entries_of, init_and_last, with_undone, pending, redo, redo_first, revoke_by, revoke_entry, send, send_unless, undo, undo_last, with_entry, with_selection, with_told}
 use Rattle.model_site.specs.Take.{take_ack, take_entry, take_foreign}
 use Rattle.model_site.specs.Causes.{RedoCause, SendCause, UndoCause}
 use Rattle.model_site_law.specs.Chain.{Fresh, Numbered, store_after_all}
@@ -166,7 +166,7 @@ module _ (w : Session) (h : SessionHolds w) (opens : AllIn w.base.store (cited w
       by_last [] e done = cc
       by_last (x ∷ es) e done =
           let q = init_and_last x es in
-          let new : Site = record m.site { replica = reverted q.1 m.site.replica; unsent = q.0; undone = q.1.txs ∷ m.site.undone } in
+          let new : Site = with_undone q.1 q.0 m.site in
           let same : new ≡ next = cc in
           let low : m.site.seen ≡ 0 = ap (λ (t : Site). t.seen) same ∙ z in
           let on = on_it w.base w.committed m p low in
@@ -214,6 +214,13 @@ module _ (w : Session) (h : SessionHolds w) (opens : AllIn w.base.store (cited w
       by_site None e = all
       by_site (Some m) e =
           let site = with_selection s m.site in
+          put_fresh w k (record m { site = site }) all (λ z. same_fresh w.base m.site site refl refl (every_get (IfFresh w.base) w.members k m all e z))
+  event_fresh (Tell k) may = by_site (slice_get w.members k) refl
+    where
+      by_site : (o : Option Member) → slice_get w.members k ≡ o → After (at_member w o (λ m. with_site k m (with_told m.site) w))
+      by_site None e = all
+      by_site (Some m) e =
+          let site = with_told m.site in
           put_fresh w k (record m { site = site }) all (λ z. same_fresh w.base m.site site refl refl (every_get (IfFresh w.base) w.members k m all e z))
   event_fresh (Undo k) may = by_site (slice_get w.members k) refl
     where
@@ -309,9 +316,9 @@ undone_is_first base sites events k m opens may e low none = (
 
 -- ---- undone at once
 
-undo_last-more : (s : Site) (es : List Entry) (e : Entry) → undo_last (es ++ e ∷ []) s ≡ Ok (record s { replica = reverted e s.replica; unsent = es; undone = e.txs ∷ s.undone })
+undo_last-more : (s : Site) (es : List Entry) (e : Entry) → undo_last (es ++ e ∷ []) s ≡ Ok (with_undone e es s)
 undo_last-more s [] e = refl
-undo_last-more s (x ∷ es) e = ap (λ (p : List Entry × Entry). Ok (record s { replica = reverted p.1 s.replica; unsent = p.0; undone = p.1.txs ∷ s.undone })) (parted-more x es)
+undo_last-more s (x ∷ es) e = ap (λ (p : List Entry × Entry). Ok (with_undone p.1 p.0 s)) (parted-more x es)
   where
     parted-more : (y : Entry) (es : List Entry) → init_and_last y (es ++ e ∷ []) ≡ (y ∷ es, e)
     parted-more y [] = refl
@@ -333,7 +340,7 @@ pub undone_at_once : UndoneAtOnce
 undone_at_once base sites events k m opens may e ts next may_run done =
     let s = with_entry ts m.site in
     let leaves = undone_entry_leaves ts m.site.replica (list_is_sound base sites events k m opens may e) (at_end base sites events k m opens may e).member.site.held may_run in
-    let same : record s { replica = reverted (entry_of ts m.site.replica) s.replica; unsent = m.site.unsent; undone = all_filled ts m.site.replica.items ∷ [] } ≡ next =
+    let same : with_undone (entry_of ts m.site.replica) m.site.unsent s ≡ next =
     (let both = sym (undo_last-more s m.site.unsent (entry_of ts m.site.replica)) ∙ done in cc) in (
       sym (ap (λ (t : Site). t.replica.items) same) ∙ leaves.0,
       sym (ap (λ (t : Site). t.replica.store) same) ∙ leaves.1,

@@ -14,11 +14,11 @@ use Rattle.model_change.proofs.Fits.{Fits, parts_of_Applies}
 use Rattle.model_change_law.proofs.InsertedLemmas.{join_lists_insert_the_same}
 use Rattle.model_site.specs.Causes.{RedoCause, SendCause, UndoCause}
 use Rattle.model_site.specs.Entries.{Entry, Parcel, entry_of, parcels, reverted}
-use Rattle.model_site.specs.Events.{Event, Perform, Redo, Revoke, Select, Send, Serve, Take, Undo, after_turn, at_member, happens, run, with_sent, with_site, with_site_of}
+use Rattle.model_site.specs.Events.{Event, Perform, Redo, Revoke, Select, Send, Serve, Take, Tell, Undo, after_turn, at_member, happens, run, with_sent, with_site, with_site_of}
 use Rattle.model_site.specs.Joined.{join_entries, joined_first}
 use Rattle.model_site.specs.Replica.{Replica, all_filled}
 use Rattle.model_site.specs.Session.{Ack, Foreign, Member, Session, SiteFeed, accepted_of, all_fed, feed_for, foreign_feed, joining, put_member, serve_first, started, take_first}
-use Rattle.model_site.specs.Site.{Site, Submission, entries_of, init_and_last, pending, redo, redo_first, revoke_by, send, undo, undo_last, with_entry, with_selection}
+use Rattle.model_site.specs.Site.{Site, Submission, entries_of, init_and_last, with_undone, pending, redo, redo_first, revoke_by, send, undo, undo_last, with_entry, with_selection, with_told}
 use Rattle.model_site.specs.Take.{parcel_entries, take_ack, take_entry, take_foreign}
 use Rattle.model_site_law.specs.ItemLaws.{AllInsert, AllPass, Inserts, ItemsKeep, SettingKeeps}
 use Rattle.model_site_law.specs.MayHappen.{AllMayHappen, MayHappen}
@@ -204,7 +204,7 @@ module _ (test : PlainItem → Bool) (keeps : SettingKeeps test) where
       by_last [] e done = cc
       by_last (x ∷ es) e done =
           let p = init_and_last x es in
-          let same : record s { replica = reverted p.1 s.replica; unsent = p.0; undone = p.1.txs ∷ s.undone } ≡ next = cc in
+          let same : with_undone p.1 p.0 s ≡ next = cc in
           let whole : parcels s.unsent ≡ parcels p.0 ++ p.1.txs ∷ [] = ap parcels (sym (parted_is x es ∙ e)) ∙ parcels-append p.0 (p.1 ∷ []) in
           let parts = all-parts (AllInsert test) (parcels p.0) (p.1.txs ∷ []) (subst Entries whole h.unsent) in
           subst Sites same (record { sent = h.sent; unsent = parts.0; undone = (parts.1.0, h.undone) })
@@ -340,6 +340,8 @@ module _ (test : PlainItem → Bool) (keeps : SettingKeeps test) where
     event_inserts (Perform k ts) may i = at_by (slice_get w.members k) k _ refl (λ m e. put_site w k m (with_entry ts m.site) h (here k m e) (with_entry_inserts ts m.site i (here k m e).site))
     event_inserts (Select k s) may i =
         at_by (slice_get w.members k) k _ refl (λ m e. put_site w k m (with_selection s m.site) h (here k m e) (record { sent = (here k m e).site.sent; unsent = (here k m e).site.unsent; undone = (here k m e).site.undone }))
+    event_inserts (Tell k) may i =
+        at_by (slice_get w.members k) k _ refl (λ m e. put_site w k m (with_told m.site) h (here k m e) (record { sent = (here k m e).site.sent; unsent = (here k m e).site.unsent; undone = (here k m e).site.undone }))
     event_inserts (Undo k) may i = at_by (slice_get w.members k) k _ refl (λ m e. undo_by k m e (undo m.site) refl)
     event_inserts (Redo k) may i = at_by (slice_get w.members k) k _ refl (λ m e. redo_by k m e (redo m.site) refl)
     event_inserts (Revoke k n) may i = at_by (slice_get w.members k) k _ refl (λ m e. revoke_of k n m e (may m e) (revoke (entries_of w.committed m.site) n) refl)

@@ -5,7 +5,7 @@ use Rattle.ve_base.specs.declared.value.Value.{Value}
 use Rattle.model_items.specs.Plain.{AreDistinct}
 use Rattle.model_change.specs.Store.{cited}
 use Rattle.model_change.proofs.StoreLemmas.{fill_appends}
-use Rattle.model_site.specs.Events.{Event, Perform, Redo, Revoke, Select, Send, Serve, Take, Undo, happens}
+use Rattle.model_site.specs.Events.{Event, Perform, Redo, Revoke, Select, Send, Serve, Take, Tell, Undo, happens}
 use Rattle.model_site.specs.Replica.{Replica}
 use Rattle.model_site.specs.Session.{Session, started}
 use Rattle.model_site_law.specs.Laws.{FirstStoreIsDistinct, StoreIsDistinct}
@@ -32,6 +32,7 @@ distinct_is_kept = record {
 selecting_keeps_distinct : (w : Session) (e : Event) → SelectKeeps HasDistinct w e
 selecting_keeps_distinct w (Select k s) = λ m e p. p
 selecting_keeps_distinct w (Perform k ts) = tt
+selecting_keeps_distinct w (Tell k) = tt
 selecting_keeps_distinct w (Undo k) = tt
 selecting_keeps_distinct w (Redo k) = tt
 selecting_keeps_distinct w (Revoke k i) = tt
@@ -59,6 +60,7 @@ selection_is_kept = record {
 selecting_within_keeps : (w : Session) (e : Event) → SelectsWithin w e → SelectKeeps HasSelection w e
 selecting_within_keeps w (Select k s) within = λ m e p. within m e
 selecting_within_keeps w (Perform k ts) within = tt
+selecting_within_keeps w (Tell k) within = tt
 selecting_within_keeps w (Undo k) within = tt
 selecting_within_keeps w (Redo k) within = tt
 selecting_within_keeps w (Revoke k i) within = tt

@@ -1,5 +1,5 @@
 -- The words of the laws, at work.
-use Rattle.std.proofs.Common.{◌≡◌, ◌≤◌, ℕ, Bool, true, false, List, [], ◌∷◌, codes, refl, arith}
+use Rattle.std.proofs.Common.{◌≡◌, ◌≤◌, ℕ, Bool, true, false, Option, Some, None, List, [], ◌∷◌, codes, refl, ap, arith}
 use Rattle.std.proofs.lemmas.List.Elements.{All-cons, All-nil}
 use Rattle.ve_base.specs.declared.marks.Mark.{Mark}
 use Rattle.ve_base.specs.declared.value.Value.TheVariants as value
@@ -8,15 +8,16 @@ use Rattle.model_items.specs.declared.plain_item.PlainItem.TheVariants.{Char}
 use Rattle.model_change.specs.Transaction.{Retain, Replace, Transaction}
 use Rattle.model_edit.specs.Translate.{between}
 use Rattle.model_site.specs.Entries.{Entry, entry_of}
-use Rattle.model_site.specs.Replica.{Replica}
-use Rattle.model_site.specs.Session.{Foreign, Ack}
+use Rattle.model_site.specs.Replica.{Replica, opened_with}
+use Rattle.model_site.specs.Session.{Foreign, Ack, Session, started}
 use Rattle.model_site.specs.Site.{Site, starting, with_entry}
-use Rattle.model_site.specs.Events.{Perform, Undo, Redo}
+use Rattle.model_site.specs.Events.{Perform, Undo, Redo, Tell}
 use Rattle.model_site_law.specs.Chain.{needed_values, store_after_all}
 use Rattle.model_site_law.specs.Protocol.{InStep, kept_under}
 use Rattle.model_site_law.specs.ItemLaws.{Inserts}
 use Rattle.model_site_law.specs.Laws.{turns}
 use Rattle.model_site_law.specs.StoreLaws.{BeginsWith}
+use Rattle.model_site_law.specs.ViewLaws.{IsViewOf, patched, told_at, whole}
 
 abbrev bold : List Mark
 bold = record { tag = codes "b"; attrs = [] } ∷ []
@@ -69,3 +70,35 @@ begins_with : BeginsWith (value.Marks bold ∷ []) edited_once
 begins_with =
     let Since : Entry → Type 0 = λ e. 1 ≤ e.store_before in
     record { more = value.Marks italic ∷ []; begins = refl; since = All-cons Since (entry_of (insertion 0 0 ∷ []) opened) [] (omega arith) (All-nil Since) }
+
+-- ---- a view by patches
+
+-- of four items the second goes, and two come behind the first: those are holes
+holes_stay_open : patched (record { at = 1; removed = 1; inserted = 2 } ∷ []) (whole (Char 97 [] ∷ Char 98 [] ∷ Char 99 [] ∷ Char 100 [] ∷ []))
+    ≡ Some (Char 97 []) ∷ None ∷ None ∷ Some (Char 99 []) ∷ Some (Char 100 []) ∷ []
+holes_stay_open = refl
+
+abbrev first_page : List PlainItem
+first_page = Char 97 [] ∷ Char 98 bold ∷ []
+
+abbrev two_sites : Session
+two_sites = started (opened_with first_page) 2
+
+-- the list that a site told last is not another site's, nor one from before
+told_here : told_at 1 two_sites (Tell 1) [] ≡ (opened_with first_page).items
+told_here = refl
+
+told_elsewhere : told_at 1 two_sites (Tell 0) (Char 97 [] ∷ []) ≡ Char 97 [] ∷ []
+told_elsewhere = refl
+
+abbrev code_of : Option PlainItem → ℕ
+code_of (Some (Char code marks)) = code
+code_of _ = 0
+
+-- a view that has another item at a position is none
+other_item : IsViewOf (Char 97 [] ∷ []) (Some (Char 98 []) ∷ []) → ⊥
+other_item view = let other : 97 ≡ 98 = ap code_of (view.agrees 0 (Char 98 []) refl) in omega (arith, other)
+
+-- nor is one that is too short
+too_short : IsViewOf (Char 97 [] ∷ []) [] → ⊥
+too_short view = let long : 0 ≡ 1 = view.as_long in omega arith

@@ -7,7 +7,7 @@ use Rattle.model_change.specs.Store.{cited}
 use Rattle.model_change.specs.Transaction.{Transaction}
 use Rattle.model_change.proofs.ReversalLaw.{revoke_takes_back}
 use Rattle.model_site.specs.Entries.{parcels}
-use Rattle.model_site.specs.Events.{Event, Perform, Redo, Revoke, Select, Send, Serve, Take, Undo, after_turn, at_member, happens, run, with_sent, with_site_of}
+use Rattle.model_site.specs.Events.{Event, Perform, Redo, Revoke, Select, Send, Serve, Take, Tell, Undo, after_turn, at_member, happens, run, with_sent, with_site_of}
 use Rattle.model_site.specs.Replica.{Replica}
 use Rattle.model_site.specs.Session.{SiteFeed, Member, Session, serve_first, started, take_first}
 use Rattle.model_site.specs.Site.{Site, Submission, entries_of, redo, revoke_by, revoke_entry, send, undo, with_entry}
@@ -49,6 +49,7 @@ base_taken w k m (f ∷ later) = refl
 pub base_stays : (w : Session) (e : Event) → (happens w e).base ≡ w.base
 base_stays w (Perform k ts) = base_at w (slice_get w.members k) _ (λ m. refl)
 base_stays w (Select k s) = base_at w (slice_get w.members k) _ (λ m. refl)
+base_stays w (Tell k) = base_at w (slice_get w.members k) _ (λ m. refl)
 base_stays w (Undo k) = base_at w (slice_get w.members k) _ (λ m. base_result w k m (undo m.site))
 base_stays w (Redo k) = base_at w (slice_get w.members k) _ (λ m. base_result w k m (redo m.site))
 base_stays w (Revoke k i) = base_at w (slice_get w.members k) _ (λ m. base_result w k m (revoke_entry w.committed i m.site))

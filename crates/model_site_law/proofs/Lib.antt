@@ -23,4 +23,6 @@ pub mod EditLemmas
 pub mod CountLemmas
 pub mod ItemLemmas
 pub mod BeginLemmas
+pub mod ShownLemmas
+pub mod ToldLemmas
 mod LawExamples

@@ -220,6 +220,7 @@ pub record Sends (s : Site) (r : Site × Submission) : Type 0 where
   pub sent : r.0.sent ≡ s.sent ++ s.unsent
   pub unsent : r.0.unsent ≡ []
   pub replica : r.0.replica ≡ s.replica
+  pub untold : r.0.untold ≡ s.untold
   pub seen : r.0.seen ≡ s.seen
   pub undone : r.0.undone ≡ s.undone
   pub count : ℕ
@@ -242,6 +243,7 @@ sends s r done = by_state s.in_flight s.unsent refl refl done
           sent = ap (λ us. s.sent ++ us) u;
           unsent = refl;
           replica = refl;
+          untold = refl;
           seen = refl;
           undone = refl;
           count = length (e ∷ es);

@@ -8,7 +8,7 @@ use Rattle.model_site.specs.Entries.{Entry, Parcel, entry_of, parcels, reverted}
 use Rattle.model_site.specs.Events.{Event, Redo, Undo, at_member, happens, run, with_site_of}
 use Rattle.model_site.specs.Replica.{Replica, all_filled}
 use Rattle.model_site.specs.Session.{Member, Session, put_member, started}
-use Rattle.model_site.specs.Site.{Site, init_and_last, pending, redo, redo_first, undo, undo_last, with_entry}
+use Rattle.model_site.specs.Site.{Site, init_and_last, with_undone, pending, redo, redo_first, undo, undo_last, with_entry}
 use Rattle.model_site.specs.Causes.{RedoCause, UndoCause}
 use Rattle.model_site_law.specs.Chain.{Fresh, store_after_all}
 use Rattle.model_site_law.specs.Laws.{RedoneIsAsBefore, turns}
@@ -46,7 +46,7 @@ undo_alike base s t done = by_last s.unsent refl done
     by_last [] e done = cc
     by_last (x ∷ es) e done =
         let p = init_and_last x es in
-        let new : Site = record s { replica = reverted p.1 s.replica; unsent = p.0; undone = p.1.txs ∷ s.undone } in
+        let new : Site = with_undone p.1 p.0 s in
         let same : new ≡ t = cc in
         let old = flattened (parcels (s.sent ++ p.0)) in
         let one : whole new ≡ whole s =

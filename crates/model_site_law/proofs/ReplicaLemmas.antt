@@ -14,7 +14,7 @@ use Rattle.model_site.specs.Events.{Event, Select, happens}
 use Rattle.model_site.specs.Joined.{join_entries}
 use Rattle.model_site.specs.Replica.{Replica, all_performed, all_put_back, changed_by, performed, put_back}
 use Rattle.model_site.specs.Session.{Member, Session, all_fed}
-use Rattle.model_site.specs.Site.{Site, Submission, init_and_last, pending, redo, redo_first, send, undo, undo_last, with_entry, with_selection}
+use Rattle.model_site.specs.Site.{Site, Submission, init_and_last, with_undone, pending, redo, redo_first, send, undo, undo_last, with_entry, with_selection}
 use Rattle.model_site.specs.Take.{take_entry, take_foreign}
 use Rattle.model_site_law.specs.Holds.{Holds, ground}
 use Rattle.model_site_law.specs.Protocol.{Every}
@@ -122,7 +122,7 @@ module _ (P : Replica → Type 0) (is_kept : IsKept P) where
           let old = flattened (parcels (s.sent ++ q.0)) in
           let split : flattened (parcels (pending s)) ≡ old ++ q.1.txs = ap (λ us. flattened (parcels (s.sent ++ us))) (sym (parted_is x es ∙ e)) ∙ pending_more s.sent q.0 q.1 in
           let parts = AllRun-parts old q.1.txs floor (subst (λ us. AllRun us floor) split h.runs) in
-          let same : record s { replica = reverted q.1 s.replica; unsent = q.0; undone = q.1.txs ∷ s.undone } ≡ next = cc in
+          let same : with_undone q.1 q.0 s ≡ next = cc in
           subst P (ap (λ (t : Site). t.replica) same)
           (undone_keep q.1 s.replica (replay old floor) (sound_after old floor sound parts.0) parts.1 (h.list ∙ ap (λ us. replay us floor) split ∙ replay-append old q.1.txs floor) p)
 

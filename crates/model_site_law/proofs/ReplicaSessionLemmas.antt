@@ -4,10 +4,10 @@ use Rattle.std.proofs.Common.{◌≡◌, ◌<◌, ℕ, zero, suc, List, [], ◌�
 use Rattle.model_change.specs.Join.{RangeConflict}
 use Rattle.model_change.specs.Replay.{revoke}
 use Rattle.model_change.specs.Transaction.{Transaction}
-use Rattle.model_site.specs.Events.{Event, Perform, Redo, Revoke, Select, Send, Serve, Take, Undo, after_turn, at_member, happens, run, with_sent, with_site, with_site_of}
+use Rattle.model_site.specs.Events.{Event, Perform, Redo, Revoke, Select, Send, Serve, Take, Tell, Undo, after_turn, at_member, happens, run, with_sent, with_site, with_site_of}
 use Rattle.model_site.specs.Replica.{Replica}
 use Rattle.model_site.specs.Session.{Ack, SiteFeed, Foreign, Member, Session, joining, put_member, serve_first, serve_next, started, take_first, take_next}
-use Rattle.model_site.specs.Site.{Site, Submission, entries_of, redo, revoke_by, revoke_entry, send, undo, with_entry, with_selection}
+use Rattle.model_site.specs.Site.{Site, Submission, entries_of, redo, revoke_by, revoke_entry, send, undo, with_entry, with_selection, with_told}
 use Rattle.model_site.specs.Take.{take_ack, take_foreign}
 use Rattle.model_site.specs.Causes.{RedoCause, SendCause, UndoCause}
 use Rattle.model_site_law.specs.MayHappen.{AllMayHappen, MayHappen}
@@ -43,6 +43,11 @@ module _ (P : Replica → Type 0) (is_kept : IsKept P) (w : Session) (h : Sessio
       by_site : (o : Option Member) → slice_get w.members k ≡ o → Kept (at_member w o (λ m. with_site k m (with_selection s m.site) w))
       by_site None e = all
       by_site (Some m) e = put k (record m { site = with_selection s m.site }) (keeps m e (here k m e))
+  event_keeps (Tell k) may keeps = by_site (slice_get w.members k) refl
+    where
+      by_site : (o : Option Member) → slice_get w.members k ≡ o → Kept (at_member w o (λ m. with_site k m (with_told m.site) w))
+      by_site None e = all
+      by_site (Some m) e = put k (record m { site = with_told m.site }) (here k m e)
   event_keeps (Undo k) may keeps = by_site (slice_get w.members k) refl
     where
       by_result : (m : Member) → slice_get w.members k ≡ Some m → (r : Result Site UndoCause) → undo m.site ≡ r → Kept (with_site_of k m r w)

@@ -6,7 +6,7 @@ use Rattle.model_items.specs.declared.plain_item.PlainItem.{PlainItem}
 use Rattle.model_change.specs.Replay.{AllRun, flattened, replay}
 use Rattle.model_change.specs.Store.{cited}
 use Rattle.model_site.specs.Entries.{Parcel, parcels}
-use Rattle.model_site.specs.Events.{Event, Perform, Redo, Revoke, Select, Send, Serve, Take, Undo, after_turn, at_member, happens, run}
+use Rattle.model_site.specs.Events.{Event, Perform, Redo, Revoke, Select, Send, Serve, Take, Tell, Undo, after_turn, at_member, happens, run}
 use Rattle.model_site.specs.Joined.{join_entries}
 use Rattle.model_site.specs.Replica.{Replica}
 use Rattle.model_site.specs.Session.{Ack, Foreign, Member, Session, accepted_of, all_fed, feed_for, foreign_feed, joining, put_member, serve_first, serve_next, started}
@@ -19,7 +19,7 @@ use Rattle.model_site_law.proofs.AcceptLemmas.{kept-append}
 use Rattle.model_site_law.proofs.JoinedLemmas.{entries_join}
 use Rattle.model_site_law.proofs.MemberLemmas.{acknowledged, more_fed, no_ack_more, one_ack_from, one_ack_more}
 use Rattle.model_site_law.proofs.ReplayLemmas.{AllRun-append, AllRun-parts, flattened-append, replay-append, sound_after}
-use Rattle.model_site_law.proofs.SessionLemmas.{edit_in, every_get, redo_in, revoke_in, select_in, send_in, take_in, undo_in}
+use Rattle.model_site_law.proofs.SessionLemmas.{edit_in, every_get, redo_in, revoke_in, select_in, send_in, take_in, tell_in, undo_in}
 
 -- ---- more is committed, and a site is fed with it
 
@@ -172,6 +172,7 @@ serve_in w k h = by_site (slice_get w.members k) refl
 pub event_holds : (w : Session) (e : Event) → SessionHolds w → MayHappen w e → SessionHolds (happens w e)
 event_holds w (Perform k ts) h may = edit_in w k ts h may
 event_holds w (Select k s) h may = select_in w k s h
+event_holds w (Tell k) h may = tell_in w k h
 event_holds w (Undo k) h may = undo_in w k h
 event_holds w (Redo k) h may = redo_in w k h
 event_holds w (Revoke k i) h may = revoke_in w k i h may

@@ -6,9 +6,9 @@ use Rattle.model_change.specs.Replay.{AllRun, flattened, revoke}
 use Rattle.model_change.specs.Transaction.{Transaction}
 use Rattle.model_edit.specs.declared.selection.Selection.{Selection}
 use Rattle.model_site.specs.Entries.{Entry, Parcel, parcels, reverted}
-use Rattle.model_site.specs.Events.{Perform, Redo, Revoke, Select, Send, Take, Undo, after_turn, at_member, happens, with_sent, with_site, with_site_of}
+use Rattle.model_site.specs.Events.{Perform, Redo, Revoke, Select, Send, Take, Tell, Undo, after_turn, at_member, happens, with_sent, with_site, with_site_of}
 use Rattle.model_site.specs.Session.{Ack, SiteFeed, Foreign, Member, Session, put_member, take_first, take_next, with_member}
-use Rattle.model_site.specs.Site.{Site, Submission, entries_of, init_and_last, redo, redo_first, revoke_by, revoke_entry, send, undo, undo_last, with_entry, with_selection}
+use Rattle.model_site.specs.Site.{Site, Submission, entries_of, init_and_last, with_undone, redo, redo_first, revoke_by, revoke_entry, send, undo, undo_last, with_entry, with_selection, with_told}
 use Rattle.model_site.specs.Causes.{RedoCause, SendCause, UndoCause}
 use Rattle.model_site_law.specs.Holds.{Holds, ground}
 use Rattle.model_site_law.specs.MayHappen.{MayHappen}
@@ -70,7 +70,7 @@ undo_keeps s next done = by_last s.unsent done
     by_last [] done = cc
     by_last (x ∷ es) done =
         let p = init_and_last x es in
-        let e : record s { replica = reverted p.1 s.replica; unsent = p.0; undone = p.1.txs ∷ s.undone } ≡ next = cc in
+        let e : with_undone p.1 p.0 s ≡ next = cc in
         (sym (ap (λ (t : Site). t.in_flight) e), sym (ap (λ (t : Site). t.sent) e))
 
 redo_keeps : (s next : Site) → redo s ≡ Ok next → (next.in_flight ≡ s.in_flight) × (next.sent ≡ s.sent)
@@ -102,6 +102,19 @@ select_in w k s h = by_site (slice_get w.members k) refl
         let p = every_get _ w.members k m h.members e in
         let q = p.site in
         let site = with_selection s m.site in
+        put_holds w k (record m { site = site }) h
+        (with_same w.base.items w.committed m site p (record { seen = q.seen; list = q.list; runs = q.runs; undone = q.undone; chain = q.chain; held = q.held }) refl refl)
+
+pub tell_in : (w : Session) (k : ℕ) → SessionHolds w → SessionHolds (happens w (Tell k))
+tell_in w k h = by_site (slice_get w.members k) refl
+  where
+    by_site : (o : Option Member) → slice_get w.members k ≡ o →
+        SessionHolds (at_member w o (λ m. with_site k m (with_told m.site) w))
+    by_site None e = h
+    by_site (Some m) e =
+        let p = every_get _ w.members k m h.members e in
+        let q = p.site in
+        let site = with_told m.site in
         put_holds w k (record m { site = site }) h
         (with_same w.base.items w.committed m site p (record { seen = q.seen; list = q.list; runs = q.runs; undone = q.undone; chain = q.chain; held = q.held }) refl refl)
 

@@ -12,7 +12,7 @@ use Rattle.model_change.proofs.ReversalLaw.{revoke_takes_back}
 use Rattle.model_site.specs.Entries.{Entry, Parcel, all_reverted, entry_of, parcels, reverted}
 use Rattle.model_site.specs.Joined.{join_entries}
 use Rattle.model_site.specs.Replica.{all_performed}
-use Rattle.model_site.specs.Site.{Site, entries_of, init_and_last, pending, redo, redo_first, revoke_by, revoke_entry, undo, undo_last, with_entry}
+use Rattle.model_site.specs.Site.{Site, entries_of, init_and_last, with_undone, pending, redo, redo_first, revoke_by, revoke_entry, undo, undo_last, with_entry}
 use Rattle.model_site.specs.Take.{parcel_entries, take_entry}
 use Rattle.model_site_law.specs.Chain.{Chain, needed_values}
 use Rattle.model_site_law.specs.Holds.{Holds, ground}
@@ -106,7 +106,7 @@ undo_holds base before s next sound h done = by_last s.unsent refl done
     by_last (x ∷ es) e done =
         let p = init_and_last x es in
         let u = undone_entry base before s p.0 p.1 sound (parted_is x es ∙ e) h in
-        let new : Site = record s { replica = reverted p.1 s.replica; unsent = p.0; undone = p.1.txs ∷ s.undone } in
+        let new : Site = with_undone p.1 p.0 s in
         let same : new ≡ next = cc in
         subst (Holds base before) same (record { seen = h.seen; list = u.items; runs = u.runs; undone = u.again; chain = u.chain; held = u.held })
 

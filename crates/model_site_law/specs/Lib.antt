@@ -8,3 +8,4 @@ pub mod SelectionLaws
 pub mod KeptLaws
 pub mod ItemLaws
 pub mod StoreLaws
+pub mod ViewLaws

@@ -6,6 +6,7 @@ ghost use Rattle.model_site_law.specs.MayHappen.{EditMayRun};
 ghost use Rattle.model_site_law.specs.ItemLaws.{ItemsKeep};
 ghost use Rattle.model_site_law.specs.KeptLaws.{EventsKeep, HoldsAtFirst};
 ghost use Rattle.model_site_law.specs.StoreLaws.{StoreBegins};
+ghost use Rattle.model_site_law.specs.ViewLaws.{PatchesLead, ViewHolds};
 
 /// Entries are joined over committed transactions up to the first conflict. The transactions of
 /// those kept join as one list, and with the next entry's they have that conflict. So an entry is
@@ -94,6 +95,14 @@ pub fn events_keep()
     ensures first { HoldsAtFirst }
     ensures then { EventsKeep }
     ensures edits { EditMayRun }
+{}
+
+/// The patches of transactions lead from a list to the one that they give: what they put in are
+/// holes, and all else is where it was. So what a site would tell leads from the list that it told
+/// last to its list, whatever happened. Whoever keeps the items and fetches the holes has the list.
+pub fn views_hold()
+    ensures lead { PatchesLead }
+    ensures always { ViewHolds }
 {}
 
 /// A property that each opened and each inserted item has, and that setting an attribute keeps,

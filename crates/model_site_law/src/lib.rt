@@ -13,6 +13,7 @@
 //! - `SelectionLaws`: where the ends of selections stand;
 //! - `ItemLaws`: what holds of each item of every list, since it holds of each that is inserted;
 //! - `StoreLaws`: what the store of every site begins with;
+//! - `ViewLaws`: what whoever keeps a copy of a list has of it, by the patches that its site tells;
 //! - `KeptLaws`: all this holds at first and after each event.
 //!
 //! The laws stand in `laws`: each public function there does nothing, and its contract is a law
@@ -24,4 +25,5 @@ mod laws;
 pub use laws::{
     acks_count, counts_stay_within, entries_join, events_keep, items_keep, lists_are_replays,
     revokes_leave_out, selections_stand, sites_meet, stores_begin, stores_hold, undo_gives_back,
+    views_hold,
 };

@@ -8,6 +8,7 @@ mod ReferenceScripts
 mod PeopleScripts
 mod RevokeScripts
 mod TableScripts
+mod ToldScripts
 mod OrderScripts
 mod LimitScripts
 pub mod Unchanged

@@ -142,6 +142,10 @@ nears : Asks (codes "{\"do\":\"near\",\"at\":3,\"dir\":\"ahead\"}") (request.Nea
 unfolding page_on_literals is_utf8
 nears = refl
 
+tells : Asks (codes "{\"do\":\"changes\"}") request.Tell
+unfolding page_on_literals is_utf8
+tells = refl
+
 moves : Asks (codes "{\"do\":\"move\",\"dir\":\"back\"}") (request.Move Back Cluster false)
 unfolding page_on_literals is_utf8
 moves = refl

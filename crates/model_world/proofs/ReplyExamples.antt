@@ -15,7 +15,7 @@ use Rattle.model_world.specs.declared.shown.TreeWord.TheVariants as tree
 use Rattle.model_world.specs.declared.refusal.HtmlWord.TheVariants as word
 use Rattle.model_world.specs.declared.refusal.Refusal.TheVariants as refusal
 use Rattle.model_world.specs.declared.reply.Reply.{Reply}
-use Rattle.model_world.specs.declared.reply.Reply.TheVariants.{Length, Page, Items, Tree, At, Offset, Refs, Caret, Sent, Served, TookForeign, TookAck, Grid, No, NoBatch}
+use Rattle.model_world.specs.declared.reply.Reply.TheVariants.{Length, Page, Items, Tree, At, Offset, Told, Refs, Caret, Sent, Served, TookForeign, TookAck, Grid, No, NoBatch}
 use Rattle.model_world.specs.Spelled.{reply_text}
 
 abbrev Reads : Reply → List ℕ → Type 0
@@ -90,6 +90,14 @@ acknowledged = refl
 grid : Reads (Grid 1 2 (record { at = 3; row = 0; column = 0; rows = 1; columns = 2 } ∷ [])) (codes "ok 1 2 [[3,0,0,1,2]]")
 unfolding page_on_literals digits
 grid = refl
+
+told : Reads (Told 7 (record { at = 2; removed = 0; inserted = 1 } ∷ record { at = 0; removed = 1; inserted = 1 } ∷ [])) (codes "ok 7 [[2,0,1],[0,1,1]]")
+unfolding page_on_literals digits
+told = refl
+
+nothing_to_tell : Reads (Told 7 []) (codes "ok 7 []")
+unfolding page_on_literals digits
+nothing_to_tell = refl
 
 empty_grid : Reads (Grid 0 0 []) (codes "ok 0 0 []")
 unfolding page_on_literals digits

@@ -135,6 +135,7 @@ asked_answers a request.Redo = site_answers a (refused_as redo_refusal (redo (si
 asked_answers a request.Send = sent_answers a (refused_as send_refusal (send (site_of a)))
 asked_answers a request.Serve = served_answers (serve_next a.k a.member a.session)
 asked_answers a request.Take = taken_answers (take_next a.k a.member a.session)
+asked_answers a request.Tell = refl
 asked_answers a (request.ShowItems from to) = show_answers a from (unwrap_or to (length (site_items a)))
 asked_answers a (request.At at) = node_answers a at
 asked_answers a (request.Near at dir) = near_answers a at dir

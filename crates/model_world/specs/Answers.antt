@@ -24,7 +24,7 @@ use Rattle.model_site.specs.declared.served.Served.{Served}
 use Rattle.model_site.specs.declared.taken.Taken.{Taken}
 use Rattle.model_site.specs.declared.taken.Taken.TheVariants as taken
 use Rattle.model_site.specs.Replica.{Replica}
-use Rattle.model_site.specs.Site.{Site, with_entry, with_selection, undo, redo, send, revoke_entry, Submission}
+use Rattle.model_site.specs.Site.{Site, told, with_entry, with_selection, with_told, undo, redo, send, revoke_entry, Submission}
 use Rattle.model_site.specs.Session.{Session, Member, with_member, serve_next, take_next}
 use Rattle.model_world.specs.declared.edit_command.TextMarks.TheVariants.{Left}
 use Rattle.model_world.specs.declared.edit_command.EditCommand.{EditCommand}
@@ -175,6 +175,12 @@ abbrev pub typed_or_no : Asked → Result (List Transaction) BatchRefusal → Ou
 typed_or_no a (Err f) = refusal_outcome f.refusal
 typed_or_no a (Ok ts) = changed_outcome a (with_selection (between (after_text ts) (after_text ts)) (with_entry ts (site_of a)))
 
+-- ---- what changed
+
+-- the list's length and what changed in it; from then on the site has told it
+abbrev pub told_outcome : Asked → Outcome
+told_outcome a = Ok (reply.Told (length (site_items a)) (told (site_of a)), with_site a (with_told (site_of a)))
+
 -- ---- showing
 
 abbrev pub items_shown_or_no : Asked → ℕ → ℕ → Outcome
@@ -251,6 +257,7 @@ request_outcome a request.Redo = changed_or_no a (refused_as redo_refusal (redo 
 request_outcome a request.Send = sent_or_no a (refused_as send_refusal (send (site_of a)))
 request_outcome a request.Serve = served_or_no (serve_next a.k a.member a.session)
 request_outcome a request.Take = taken_or_no (take_next a.k a.member a.session)
+request_outcome a request.Tell = told_outcome a
 request_outcome a (request.ShowItems from to) = items_shown_or_no a from (unwrap_or to (length (site_items a)))
 request_outcome a (request.At at) = node_or_no a at
 request_outcome a (request.Near at dir) = near_or_no a at dir

@@ -108,6 +108,7 @@ requests =
     ∷ (codes "send", alone request.Send)
     ∷ (codes "serve", alone request.Serve)
     ∷ (codes "take", alone request.Take)
+    ∷ (codes "changes", alone request.Tell)
     ∷ (codes "data", show_read)
     ∷ (codes "at", at_read (λ at. request.At at))
     ∷ (codes "near", near_read)

@@ -15,6 +15,7 @@ use Rattle.model_items.specs.Same.{marks_same}
 use Rattle.model_items.specs.Tree.{Forest, Empty, Run, Branch}
 use Rattle.model_page.specs.declared.ref_table.RefRow.{RefRow}
 use Rattle.model_edit.specs.declared.grid_cell.GridCell.{GridCell}
+use Rattle.model_site.specs.declared.patch.Patch.{Patch}
 use Rattle.model_world.specs.declared.shown.TreeWord.{TreeWord}
 use Rattle.model_world.specs.declared.shown.TreeWord.TheVariants as tree
 use Rattle.model_world.specs.Names.{kind_name}
@@ -134,7 +135,11 @@ as_shown (Closing kind pre ∷ items) = Apart (object (closing_shown kind pre) �
 abbrev pub items_shown : List PlainItem → Data
 items_shown items = json_list (all_shown (as_shown items))
 
--- ---- references and cells
+-- ---- patches, references and cells
+
+-- `[position, removed, inserted]`
+abbrev pub patch_shown : Patch → Data
+patch_shown p = json_list (json_number p.at ∷ json_number p.removed ∷ json_number p.inserted ∷ [])
 
 abbrev pub place_or_null : Option ℕ → Data
 place_or_null None = null

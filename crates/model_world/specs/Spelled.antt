@@ -9,7 +9,7 @@ use Rattle.model_world.specs.declared.refusal.Refusal.TheVariants as refusal
 use Rattle.model_world.specs.declared.reply.Reply.{Reply}
 use Rattle.model_world.specs.declared.reply.Reply.TheVariants as reply
 use Rattle.model_world.specs.Names.{field_name, kind_name, class_name, html_word}
-use Rattle.model_world.specs.Shown.{json_text, json_list, items_shown, row_shown, cell_shown}
+use Rattle.model_world.specs.Shown.{json_text, json_list, items_shown, patch_shown, row_shown, cell_shown}
 
 -- each number after a space
 abbrev pub numbers : List ℕ → List ℕ
@@ -88,6 +88,8 @@ reply_text (reply.Items items) = ok_json (items_shown items)
 reply_text (reply.Tree words) = codes "ok" ++ flat_map tree_word words
 reply_text (reply.At kind from to class) = codes "ok " ++ (with_numbers (kind_name kind) (from ∷ to ∷ []) ++ 32 ∷ class_name class)
 reply_text (reply.Offset at) = with_numbers (codes "ok") (at ∷ [])
+reply_text (reply.Told count patches) =
+    with_numbers (codes "ok") (count ∷ []) ++ 32 ∷ compact_text (json_list (map patch_shown patches))
 reply_text (reply.Refs rows) = ok_json (json_list (map row_shown rows))
 reply_text (reply.Caret anchor focus) = with_numbers (codes "ok") (anchor ∷ focus ∷ [])
 reply_text (reply.Sent entries) = with_numbers (codes "ok") (entries ∷ [])

@@ -24,6 +24,8 @@ pub enum Request {
     Serve,
     /// `take`: the site takes the server's next feed.
     Take,
+    /// `changes`: what changed in the list since the site last told it.
+    Tell,
     /// `data`: the items of a range, to the list's end where `to` is absent.
     ShowItems { from: usize, to: Option<usize> },
     /// `at`: the innermost node at an offset, and what the offset is.

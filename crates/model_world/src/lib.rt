@@ -44,4 +44,4 @@ pub use laws::{batches_are_whole, refusals_change_nothing};
 pub use names::{class_name, field_name, html_word, kind_name};
 pub use refusal::{HtmlWord, Refusal};
 pub use reply::Reply;
-pub use shown::{GridCells, PlainList, TreeWord, TreeWords};
+pub use shown::{GridCells, PatchList, PlainList, TreeWord, TreeWords};

@@ -1,5 +1,5 @@
 // Replies to lines.
-use crate::{GridCells, PlainList, Refusal, TreeWords};
+use crate::{GridCells, PatchList, PlainList, Refusal, TreeWords};
 use model_items::OffsetClass;
 use model_page::RefTable;
 use ve_base::Text;
@@ -25,6 +25,11 @@ pub enum Reply {
     },
     /// To `near`: a content offset.
     Offset(usize),
+    /// To `changes`: how many items the list has, and what changed in it.
+    Told {
+        count: usize,
+        patches: PatchList,
+    },
     /// To `refs`: the table of references.
     Refs(RefTable),
     /// To `select`, `caret` and `move`: where the selection stands.

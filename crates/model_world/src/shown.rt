@@ -1,6 +1,7 @@
-// Lists that replies show: items by value, a tree in words, and the cells of a grid.
+// Lists that replies show: items by value, a tree in words, patches, and the cells of a grid.
 use model_edit::GridCell;
 use model_items::PlainItem;
+use model_site::Patch;
 use ve_base::ListOf;
 use ve_kinds::Kind;
 
@@ -20,6 +21,9 @@ pub enum TreeWord {
 
 /// A tree in words, in the order of the list; the root stands round it.
 pub type TreeWords = ListOf<TreeWord>;
+
+/// What changed in a list, one patch after the other.
+pub type PatchList = ListOf<Patch>;
 
 /// The cells of a grid, in the order of the list.
 pub type GridCells = ListOf<GridCell>;

@@ -21,4 +21,5 @@ pub mod StandReadLemmas
 pub mod ChangeStand
 mod StandingExamples
 pub mod CarriedLemmas
+pub mod ViewLemmas
 pub mod OverMarks

@@ -24,9 +24,9 @@ use Rattle.model_site.specs.declared.taken.Taken.{Taken}
 use Rattle.model_site.specs.Replica.{Replica, performed, all_performed}
 use Rattle.model_site.specs.Refused.{edit_cause}
 use Rattle.model_change.specs.Join.{RangeConflict}
-use Rattle.model_site.specs.Site.{Site, Submission, with_entry, with_selection, undo, redo, send, revoke_entry}
+use Rattle.model_site.specs.Site.{Site, Submission, with_entry, with_selection, with_told, undo, redo, send, revoke_entry}
 use Rattle.model_site.specs.Session.{Session, Member, put_member, with_member, serve_next, take_next}
-use Rattle.model_site.specs.Events.{Event, Perform, Select, Undo, Redo, Revoke, Send, Serve, Take, at_member, with_site_of, with_sent, after_turn, happens}
+use Rattle.model_site.specs.Events.{Event, Perform, Select, Undo, Redo, Revoke, Send, Serve, Take, Tell, at_member, with_site_of, with_sent, after_turn, happens}
 use Rattle.model_site.specs.Events as events
 use Rattle.model_site_law.specs.Sound.{Sound, MayRun, AllMayRun}
 use Rattle.model_site_law.specs.MayHappen.{MayHappen}
@@ -43,7 +43,7 @@ use Rattle.model_world.specs.declared.refusal.Refusal.TheVariants.{BadRange, Bad
 use Rattle.model_world.specs.declared.reply.Reply.TheVariants as reply
 use Rattle.model_world.specs.Refusals.{refused_as, build_refusal, undo_refusal, redo_refusal, send_refusal, revoke_refusal, table_refusal, list_refusal}
 use Rattle.model_world.specs.Edits.{BatchRefusal, checked_transaction, unless_faulty, change_of, change_on, batch_from, batch_on}
-use Rattle.model_world.specs.Answers.{Outcome, Asked, request_outcome, with_site, site_of, replica_of, site_items, unchanged_outcome, refusal_outcome, changed_or_no, performed_or_no, batch_or_no, selection_outcome, is_no_end, select_between, next_place, moved_or_no, lower, higher, is_collapsed, to_erase, erased_or_no, typing, after_text, typed_or_no, items_shown_or_no, node_told, node_or_no, content_near, offset_told, near_or_no, grid_or_no, table_changed, list_changed, sent_or_no, served_or_no, taken_or_no, revoked_or_no, edge_or}
+use Rattle.model_world.specs.Answers.{Outcome, Asked, request_outcome, with_site, site_of, replica_of, site_items, unchanged_outcome, refusal_outcome, changed_or_no, performed_or_no, batch_or_no, selection_outcome, is_no_end, select_between, next_place, moved_or_no, lower, higher, is_collapsed, to_erase, erased_or_no, typing, after_text, typed_or_no, items_shown_or_no, node_told, node_or_no, content_near, offset_told, near_or_no, grid_or_no, table_changed, list_changed, sent_or_no, served_or_no, taken_or_no, revoked_or_no, edge_or, told_outcome}
 use Rattle.model_change.proofs.Fits.{parts_of_Applies}
 use Rattle.model_site_law.specs.ItemLaws.{AllInsert, AllPass, Inserts}
 use Rattle.model_site_law.specs.Protocol.{Every}
@@ -54,7 +54,9 @@ use Rattle.model_world_law.proofs.StandLemmas.{setting_keeps}
 use Rattle.model_world_law.specs.Fit.{Fit, InsertsStanding, IsWritten, AllWritten, RequestWritten, LayersFit}
 use Rattle.model_world.specs.Laws.{MadeInTurn}
 use Rattle.model_world.proofs.BatchLemmas.{batch_is_whole}
-use Rattle.model_world_law.specs.Reached.{Becomes}
+use Rattle.model_site_law.specs.ViewLaws.{told_at}
+use Rattle.model_world_law.specs.Reached.{Becomes, told_if}
+use Rattle.model_world_law.specs.ViewLines.{teller}
 use Rattle.model_world_law.proofs.ChangeLemmas.{given}
 use Rattle.model_world_law.proofs.TypedLemmas.{content_no_leaf, typed_stands}
 
@@ -158,12 +160,16 @@ pub record Stands (a : Asked) : Type 0 where
   pub sound : Sound (site_items a)
   pub selection : StandsIn (site_items a) (replica_of a).selection
 
-abbrev pub Leads : Asked → Outcome → Type 0
-Leads a (Ok r) = Becomes a.session r.1
-Leads a (Err r) = Unit {0}
+-- the site of this number tells, or none
+abbrev pub LeadsBy : (teller : Option ℕ) → Asked → Outcome → Type 0
+LeadsBy t a (Ok r) = Becomes t a.session r.1
+LeadsBy t a (Err r) = Unit {0}
 
-stays : (a : Asked) → Becomes a.session a.session
-stays a = record { events = []; may = tt; within = tt; inserts = λ every. tt; same = refl }
+abbrev pub Leads : Asked → Outcome → Type 0
+Leads = LeadsBy None
+
+stays : (a : Asked) → Becomes None a.session a.session
+stays a = record { events = []; may = tt; within = tt; inserts = λ every. tt; told = λ k before. refl; same = refl }
 
 -- the items of the site that is asked may stand, where those of every site may
 abbrev Items : Asked → Type 0
@@ -172,9 +178,10 @@ Items a = AllPass may_stand (site_items a)
 asked_items : (a : Asked) → Stands a → Every (λ m. AllPass may_stand m.site.replica.items) a.session.members → Items a
 asked_items a s every = every_get (λ m. AllPass may_stand m.site.replica.items) a.session.members a.k a.member every s.there
 
-one_event : (a : Asked) → Stands a → (e : Event) (next : Session) → MayHappen a.session e → SelectsWithin a.session e → (Items a → Inserts may_stand e) → next ≡ happens a.session e → Becomes a.session next
-one_event a s e next may within inserts same =
-    record { events = e ∷ []; may = (may, tt); within = (within, tt); inserts = λ every. (inserts (asked_items a s every), tt); same = same }
+one_event : {t : Option ℕ} (a : Asked) → Stands a → (e : Event) (next : Session) → ((k : ℕ) (before : List PlainItem) → told_at k a.session e before ≡ told_if t k a.session before) →
+    MayHappen a.session e → SelectsWithin a.session e → (Items a → Inserts may_stand e) → next ≡ happens a.session e → Becomes t a.session next
+one_event a s e next told may within inserts same =
+    record { events = e ∷ []; may = (may, tt); within = (within, tt); inserts = λ every. (inserts (asked_items a s every), tt); told = told; same = same }
 
 same_member : (a : Asked) → Stands a → (m : Member) → slice_get a.session.members a.k ≡ Some m → a.member ≡ m
 same_member a s m e = let f : Some a.member ≡ Some m = sym s.there ∙ e in cc
@@ -186,9 +193,9 @@ of_member a s f = ap (λ o. at_member a.session o f) (sym s.there)
 perform_same : (a : Asked) → Stands a → (ts : List Transaction) → with_site a (with_entry ts (site_of a)) ≡ happens a.session (Perform a.k ts)
 perform_same a s ts = of_member a s (λ m. events.with_site a.k m (with_entry ts m.site) a.session)
 
-performs : (a : Asked) → Stands a → (ts : List Transaction) → AllMayRun ts (site_items a) → (Items a → AllInsert may_stand ts) → Becomes a.session (with_site a (with_entry ts (site_of a)))
+performs : (a : Asked) → Stands a → (ts : List Transaction) → AllMayRun ts (site_items a) → (Items a → AllInsert may_stand ts) → Becomes None a.session (with_site a (with_entry ts (site_of a)))
 performs a s ts may inserts =
-    one_event a s (Perform a.k ts) _ (λ m e. subst (λ n. AllMayRun ts n.site.replica.items) (same_member a s m e) may) tt inserts (perform_same a s ts)
+    one_event a s (Perform a.k ts) _ (λ k before. refl) (λ m e. subst (λ n. AllMayRun ts n.site.replica.items) (same_member a s m e) may) tt inserts (perform_same a s ts)
 
 performed_leads : (a : Asked) → Stands a → (r : Result Transaction Refusal) → ((t : Transaction) → r ≡ Ok t → MayRun t (site_items a)) → ((t : Transaction) → r ≡ Ok t → Items a → InsertsStanding t) →
     Leads a (performed_or_no a r)
@@ -207,7 +214,7 @@ batch_leads a s (Ok ts) may inserts = performs a s ts (may ts refl) (inserts ts 
 
 selects : (a : Asked) → Stands a → (sel : Selection) → StandsIn (site_items a) sel → Leads a (selection_outcome a sel)
 selects a s sel within =
-    one_event a s (Select a.k sel) _ tt (λ m e. subst (λ n. StandsIn n.site.replica.items sel) (same_member a s m e) within) (λ p. tt)
+    one_event a s (Select a.k sel) _ (λ k before. refl) tt (λ m e. subst (λ n. StandsIn n.site.replica.items sel) (same_member a s m e) within) (λ p. tt)
     (of_member a s (λ m. events.with_site a.k m (with_selection sel m.site) a.session))
 
 typed_leads : (a : Asked) → Stands a → (r : Result (List Transaction) BatchRefusal) → ((ts : List Transaction) → r ≡ Ok ts → AllMayRun ts (site_items a)) →
@@ -228,6 +235,7 @@ typed_leads a s (Ok ts) may stands inserts =
       may = ((λ m e. subst (λ n. AllMayRun ts n.site.replica.items) (same_member a s m e) (may ts refl)), (tt, tt));
       within = (tt, (subst (λ (v : Session). (m : Member) → slice_get v.members a.k ≡ Some m → StandsIn m.site.replica.items sel) (perform_same a s ts) of_middle, tt));
       inserts = λ every. (inserts ts refl (asked_items a s every), (tt, tt));
+      told = λ k before. refl;
       same = ap (λ ms. record a.session { members = ms }) (sym (put_put a.k last middle a.session.members))
           ∙ ap (λ o. at_member w o (λ m. events.with_site a.k m (with_selection sel m.site) w)) (sym there)
           ∙ ap (λ v. happens v (Select a.k sel)) (perform_same a s ts);
@@ -290,18 +298,18 @@ grid_leads a (Err f) = tt
 
 undo_leads : (a : Asked) → Stands a → (r : Result Site UndoCause) → undo (site_of a) ≡ r → Leads a (changed_or_no a (refused_as undo_refusal r))
 undo_leads a s (Err f) e = tt
-undo_leads a s (Ok site) e = one_event a s (Undo a.k) _ tt tt (λ p. tt)
+undo_leads a s (Ok site) e = one_event a s (Undo a.k) _ (λ k before. refl) tt tt (λ p. tt)
     (ap (λ r. with_site_of a.k a.member r a.session) (sym e) ∙ of_member a s (λ m. with_site_of a.k m (undo m.site) a.session))
 
 redo_leads : (a : Asked) → Stands a → (r : Result Site RedoCause) → redo (site_of a) ≡ r → Leads a (changed_or_no a (refused_as redo_refusal r))
 redo_leads a s (Err f) e = tt
-redo_leads a s (Ok site) e = one_event a s (Redo a.k) _ tt tt (λ p. tt)
+redo_leads a s (Ok site) e = one_event a s (Redo a.k) _ (λ k before. refl) tt tt (λ p. tt)
     (ap (λ r. with_site_of a.k a.member r a.session) (sym e) ∙ of_member a s (λ m. with_site_of a.k m (redo m.site) a.session))
 
 revoke_leads : (a : Asked) → Stands a → (i : ℕ) → i < (site_of a).seen → (r : Result Site RangeConflict) → revoke_entry a.session.committed i (site_of a) ≡ r →
     Leads a (changed_or_no a (refused_as revoke_refusal r))
 revoke_leads a s i seen (Err f) e = tt
-revoke_leads a s i seen (Ok site) e = one_event a s (Revoke a.k i) _
+revoke_leads a s i seen (Ok site) e = one_event a s (Revoke a.k i) _ (λ k before. refl)
     (λ m there. subst (λ n. i < n.site.seen) (same_member a s m there) seen) tt (λ p. tt)
     (ap (λ r. with_site_of a.k a.member r a.session) (sym e) ∙ of_member a s (λ m. with_site_of a.k m (revoke_entry a.session.committed i m.site) a.session))
 
@@ -317,17 +325,17 @@ revoked_leads a s i = by_seen (nat_lt i (site_of a).seen) refl
 
 send_leads : (a : Asked) → Stands a → (r : Result (Site × Submission) SendCause) → send (site_of a) ≡ r → Leads a (sent_or_no a (refused_as send_refusal r))
 send_leads a s (Err f) e = tt
-send_leads a s (Ok r) e = one_event a s (Send a.k) _ tt tt (λ p. tt)
+send_leads a s (Ok r) e = one_event a s (Send a.k) _ (λ k before. refl) tt tt (λ p. tt)
     (ap (λ x. with_sent a.k a.member x a.session) (sym e) ∙ of_member a s (λ m. with_sent a.k m (send m.site) a.session))
 
 serve_leads : (a : Asked) → Stands a → (o : Option (Session × Served)) → serve_next a.k a.member a.session ≡ o → Leads a (served_or_no o)
 serve_leads a s None e = tt
-serve_leads a s (Some r) e = one_event a s (Serve a.k) _ tt tt (λ p. tt)
+serve_leads a s (Some r) e = one_event a s (Serve a.k) _ (λ k before. refl) tt tt (λ p. tt)
     (ap (after_turn a.session) (sym e) ∙ of_member a s (λ m. after_turn a.session (serve_next a.k m a.session)))
 
 take_leads : (a : Asked) → Stands a → (o : Option (Session × Taken)) → take_next a.k a.member a.session ≡ o → Leads a (taken_or_no o)
 take_leads a s None e = tt
-take_leads a s (Some r) e = one_event a s (Take a.k) _ tt tt (λ p. tt)
+take_leads a s (Some r) e = one_event a s (Take a.k) _ (λ k before. refl) tt tt (λ p. tt)
     (ap (after_turn a.session) (sym e) ∙ of_member a s (λ m. after_turn a.session (take_next a.k m a.session)))
 
 table_leads : (a : Asked) → Stands a → (r : Result Transaction TableCause) → ((t : Transaction) → r ≡ Ok t → Fit t) → ((t : Transaction) → r ≡ Ok t → InsertsStanding t) → Leads a (table_changed a r)
@@ -375,7 +383,11 @@ select_leads a s anchor focus = by (is_no_end (site_items a) anchor) (is_no_end 
     by false true d e = tt
     by false false d e = selects a s (between anchor focus) (record { anchor = stands_from (site_items a) anchor d; focus = stands_from (site_items a) focus e })
 
-pub asked_leads : LayersFit → (a : Asked) → Stands a → (r : Request) → RequestWritten r → Leads a (request_outcome a r)
+tell_leads : (a : Asked) → Stands a → LeadsBy (Some a.k) a (told_outcome a)
+tell_leads a s = one_event a s (Tell a.k) _ (λ k before. refl) tt tt (λ p. tt)
+    (of_member a s (λ m. events.with_site a.k m (with_told m.site) a.session))
+
+pub asked_leads : LayersFit → (a : Asked) → Stands a → (r : Request) → RequestWritten r → LeadsBy (teller r a.k) a (request_outcome a r)
 asked_leads fit a s request.Html o = stays a
 asked_leads fit a s request.Tree o = stays a
 asked_leads fit a s request.Refs o = stays a
@@ -385,6 +397,7 @@ asked_leads fit a s request.Redo o = redo_leads a s (redo (site_of a)) refl
 asked_leads fit a s request.Send o = send_leads a s (send (site_of a)) refl
 asked_leads fit a s request.Serve o = serve_leads a s (serve_next a.k a.member a.session) refl
 asked_leads fit a s request.Take o = take_leads a s (take_next a.k a.member a.session) refl
+asked_leads fit a s request.Tell o = tell_leads a s
 asked_leads fit a s (request.ShowItems from to) o = show_leads a from (unwrap_or to (length (site_items a)))
 asked_leads fit a s (request.At at) o = node_leads a at
 asked_leads fit a s (request.Near at dir) o = near_leads a at dir

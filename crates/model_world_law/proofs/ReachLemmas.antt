@@ -42,9 +42,10 @@ use Rattle.model_site_law.specs.ItemLaws.{AllPass, Inserts}
 use Rattle.model_site_law.specs.Protocol.{Every}
 use Rattle.model_site_law.proofs.ItemLemmas.{items_keep}
 use Rattle.model_world_law.specs.Standing.{may_stand}
+use Rattle.model_world_law.specs.ViewLines.{teller}
 use Rattle.model_world_law.proofs.ChangeStand.{changes_stand, moves_stand, pages_stand}
 use Rattle.model_world_law.proofs.StandLemmas.{setting_keeps}
-use Rattle.model_world_law.proofs.LinkLemmas.{Stands, Leads, asked_leads}
+use Rattle.model_world_law.proofs.LinkLemmas.{Stands, LeadsBy, asked_leads}
 use Rattle.model_world_law.proofs.WrittenLemmas.{lines_are_written}
 use Rattle.model_world_law.proofs.ChangeLemmas.{given, changes_fit, pages_are_sound}
 use Rattle.model_world_law.proofs.BuilderLemmas.{moves_fit}
@@ -76,7 +77,7 @@ reached_stand lines o w k m r e u =
     (ap (λ (v : Session). slice_get v.members k) (sym r.same) ∙ e)
 
 -- events lead on from a session that is reached, at one more line
-further : (past : List (List ℕ)) (line : List ℕ) (o : Opened) (w next : Session) → IsReached past o w → Becomes w next → IsReached (past ++ line ∷ []) o next
+further : {t : Option ℕ} (past : List (List ℕ)) (line : List ℕ) (o : Opened) (w next : Session) → IsReached past o w → Becomes t w next → IsReached (past ++ line ∷ []) o next
 further past line o w next r b =
     let base = opened_with o.items in
     let start = started base r.sites in
@@ -102,10 +103,10 @@ further past line o w next r b =
 -- a line that changes nothing
 unchanged : (past : List (List ℕ)) (line : List ℕ) (w : World) → WorldReached past w → WorldReached (past ++ line ∷ []) w
 unchanged past line Closed reached = tt
-unchanged past line (Open o w) reached = further past line o w w reached (record { events = []; may = tt; within = tt; inserts = λ every. tt; same = refl })
+unchanged past line (Open o w) reached = further {t = None} past line o w w reached (record { events = []; may = tt; within = tt; inserts = λ every. tt; told = λ k before. refl; same = refl })
 
 -- the site that is asked stands
-site_stands : (past : List (List ℕ)) (o : Opened) (w : Session) (k : ℕ) (m : Member) → IsReached past o w → slice_get w.members k ≡ Some m →
+pub site_stands : (past : List (List ℕ)) (o : Opened) (w : Session) (k : ℕ) (m : Member) → IsReached past o w → slice_get w.members k ≡ Some m →
     Stands (record { page = o; session = w; k = k; member = m })
 site_stands past o w k m r e =
     let base = opened_with o.items in
@@ -122,17 +123,17 @@ abbrev AnswerReached : List (List ℕ) → Answer → Type 0
 AnswerReached lines (Ok r) = WorldReached lines r.1
 AnswerReached lines (Err r) = Unit {0}
 
-page_reached : (past : List (List ℕ)) (line : List ℕ) (o : Opened) (w : Session) → IsReached past o w → (a : Asked) → a.session ≡ w → (r : Outcome) → Leads a r →
+page_reached : (t : Option ℕ) (past : List (List ℕ)) (line : List ℕ) (o : Opened) (w : Session) → IsReached past o w → (a : Asked) → a.session ≡ w → (r : Outcome) → LeadsBy t a r →
     AnswerReached (past ++ line ∷ []) (on_page o r)
-page_reached past line o w reached a e (Ok r) b = further past line o w r.1 reached (subst (λ v. Becomes v r.1) e b)
-page_reached past line o w reached a e (Err r) b = tt
+page_reached t past line o w reached a e (Ok r) b = further past line o w r.1 reached (subst (λ v. Becomes t v r.1) e b)
+page_reached t past line o w reached a e (Err r) b = tt
 
 member_reached : LayersFit → (past : List (List ℕ)) (line : List ℕ) (o : Opened) (w : Session) → IsReached past o w → (r : Request) (k : ℕ) → RequestWritten r →
     (x : Option Member) → slice_get w.members k ≡ x → AnswerReached (past ++ line ∷ []) (asked_of o w r k x)
 member_reached fit past line o w reached r k written None e = tt
 member_reached fit past line o w reached r k written (Some m) e =
     let a : Asked = record { page = o; session = w; k = k; member = m } in
-    page_reached past line o w reached a refl (request_outcome a r) (asked_leads fit a (site_stands past o w k m reached e) r written)
+    page_reached (teller r k) past line o w reached a refl (request_outcome a r) (asked_leads fit a (site_stands past o w k m reached e) r written)
 
 ask_reached : LayersFit → (past : List (List ℕ)) (line : List ℕ) (w : World) → WorldReached past w → (r : Request) (k : ℕ) → RequestWritten r →
     AnswerReached (past ++ line ∷ []) (answer_of w (Ask r k))
@@ -176,7 +177,7 @@ line_reached fit past w reached line = by_length (nat_lt max_line (length line))
     by_length true = tt
     by_length false = command_reached fit past w reached line (command line) refl
 
-reply_reached : LayersFit → (past : List (List ℕ)) (w : World) → WorldReached past w → (line : List ℕ) → WorldReached (past ++ line ∷ []) (reply w line).1
+pub reply_reached : LayersFit → (past : List (List ℕ)) (w : World) → WorldReached past w → (line : List ℕ) → WorldReached (past ++ line ∷ []) (reply w line).1
 reply_reached fit past w reached line = by_answer (answer w line) (line_reached fit past w reached line)
   where
     by_answer : (a : Answer) → AnswerReached (past ++ line ∷ []) a → WorldReached (past ++ line ∷ []) (reply_and_next w a).1
@@ -189,7 +190,7 @@ lines_reached fit (line ∷ lines) past w reached =
     subst (λ ls. WorldReached ls (world_after (reply w line).1 lines)) (append_assoc past (line ∷ []) lines)
     (lines_reached fit lines (past ++ line ∷ []) (reply w line).1 (reply_reached fit past w reached line))
 
-layers_fit : LayersFit
+pub layers_fit : LayersFit
 layers_fit = record {
   lines = lines_are_written;
   changes = changes_fit;

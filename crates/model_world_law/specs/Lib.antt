@@ -3,6 +3,7 @@ pub mod Written
 pub mod Fit
 pub mod Causes
 pub mod Reached
+pub mod ViewLines
 pub mod ShownLaws
 pub mod Redone
 pub mod Pasted

@@ -1,7 +1,8 @@
 -- The invariant of a world, whatever lines it was given: the laws of sites and server hold of it.
-use Rattle.std.specs.Prelude.{◌≡◌, ◌≤◌, ℕ, List, [], ◌∷◌, ◌++◌, length, slice_get, Some, Ok, IsUtf8}
+use Rattle.std.specs.Prelude.{◌≡◌, ◌≤◌, ℕ, List, [], ◌∷◌, ◌++◌, length, slice_get, Option, Some, None, Ok, IsUtf8}
 use Rattle.std.specs.List.{AllByRecursion}
 use Rattle.model_items.specs.Plain.{AreDistinct}
+use Rattle.model_items.specs.declared.plain_item.PlainItem.{PlainItem}
 use Rattle.model_change.specs.Store.{cited}
 use Rattle.model_change.specs.Replay.{replay, AllRun, flattened}
 use Rattle.model_page.specs.PageItems.{Opened}
@@ -9,26 +10,33 @@ use Rattle.model_page_write.specs.PageText.{write}
 use Rattle.model_site.specs.Replica.{Replica, opened_with}
 use Rattle.model_site.specs.Site.{pending, entries_of}
 use Rattle.model_site.specs.Session.{SiteFeed, Ack, Member, Session, started}
-use Rattle.model_site.specs.Events.{Event, run}
+use Rattle.model_site.specs.Events.{Event, Tell, run}
 use Rattle.model_site_law.specs.Sound.{Sound, AllIn, Opens}
 use Rattle.model_site_law.specs.MayHappen.{AllMayHappen}
 use Rattle.model_site_law.specs.Protocol.{Every}
 use Rattle.model_site_law.specs.ItemLaws.{AllPass, Inserts}
 use Rattle.model_site_law.specs.SelectionLaws.{StandsIn, AllSelectWithin}
 use Rattle.model_site_law.specs.StoreLaws.{BeginsWith}
+use Rattle.model_site_law.specs.ViewLaws.{told_at, told_last}
 use Rattle.model_world.specs.declared.command.Command.TheVariants.{OpenPage}
 use Rattle.model_world.specs.Commands.{command}
 use Rattle.model_world.specs.Opening.{open_page}
 use Rattle.model_world_law.specs.Standing.{may_stand}
 use Rattle.model_world.specs.World.{World, Closed, Open, world_after}
 
--- some events lead from one session to the other
-pub record Becomes (w next : Session) : Type 0 where
+-- the list that site k told last, where this site tells now, or none does
+abbrev pub told_if : (teller : Option ℕ) (k : ℕ) → Session → (before : List PlainItem) → List PlainItem
+told_if None k w before = before
+told_if (Some j) k w before = told_at k w (Tell j) before
+
+-- some events lead from one session to the other, of which one tells, or none
+pub record Becomes (teller : Option ℕ) (w next : Session) : Type 0 where
   pub events : List Event
   pub may : AllMayHappen w events
   pub within : AllSelectWithin w events
   -- where the items of every site may stand, so may all that is inserted
   pub inserts : Every (λ m. AllPass may_stand m.site.replica.items) w.members → AllByRecursion (Inserts may_stand) events
+  pub told : (k : ℕ) (before : List PlainItem) → told_last k w events before ≡ told_if teller k w before
   pub same : next ≡ run w events
 
 -- The session is the result of some events on the sites that one of the lines asked for. Each of

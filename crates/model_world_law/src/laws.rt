@@ -6,6 +6,7 @@ ghost use Rattle.model_world_law.specs.Written.{ReferencesAreWritten};
 ghost use Rattle.model_world_law.specs.Pasted.{FragmentsAreChildren, PastingStaysLawful};
 ghost use Rattle.model_world_law.specs.ShownLaws.{ShownIsRead};
 ghost use Rattle.model_world_law.specs.Redone.{LinesRedo};
+ghost use Rattle.model_world_law.specs.ViewLines.{LinesShow};
 ghost use Rattle.model_world_law.specs.Reached.{EveryItemStands, EveryWorldIsReached, EverySiteHolds, SitesMeet, UneditedIsWrittenBack};
 
 use model_edit_law::fragment_stays_lawful;
@@ -91,6 +92,13 @@ pub fn every_item_stands()
 #[tactic(auto, using(crate::proofs::RedoneLemmas::lines_redo))]
 pub fn lines_redo()
     ensures { LinesRedo }
+{}
+
+/// What a site would tell leads from the list that it told last to its list, whatever the lines: what
+/// comes is holes, and all else is where it was. So whoever keeps the items and fetches the holes has
+/// the list.
+pub fn lines_show()
+    ensures { LinesShow }
 {}
 
 /// Sites that have seen as much, and have nothing pending, have one list, and so write one page.

@@ -12,7 +12,7 @@ use Rattle.model_site.specs.Causes.{NothingToUndo, AlreadyShared}
 use Rattle.model_site.specs.Entries.{parcels, reverted}
 use Rattle.model_site.specs.Entries.{Entry as ModelEntry}
 use Rattle.model_site.specs.Replica.{Replica, all_put_back}
-use Rattle.model_site.specs.Site.{Site, init_and_last, pending, undo, undo_last}
+use Rattle.model_site.specs.Site.{Site, init_and_last, with_undone, pending, undo, undo_last}
 use Rattle.model_site_law.specs.Chain.{Chain}
 use Rattle.model_site_law.specs.Sound.{AllIn}
 use Rattle.model_site_law.proofs.ChainLemmas.{chain_rest}
@@ -54,9 +54,9 @@ undoing_end [] x = refl
 undoing_end (y ∷ ys) x = ap (λ (p : List ModelEntry × ModelEntry). reversal p.1.txs) (parted_end y ys x)
 
 undone_end : (xs : List ModelEntry) (x : ModelEntry) (s : Site) →
-    undo_last (xs ++ x ∷ []) s ≡ Ok (record s { replica = reverted x s.replica; unsent = xs; undone = x.txs ∷ s.undone })
+    undo_last (xs ++ x ∷ []) s ≡ Ok (with_undone x xs s)
 undone_end [] x s = refl
-undone_end (y ∷ ys) x s = ap (λ (p : List ModelEntry × ModelEntry). Ok (record s { replica = reverted p.1 s.replica; unsent = p.0; undone = p.1.txs ∷ s.undone })) (parted_end y ys x)
+undone_end (y ∷ ys) x s = ap (λ (p : List ModelEntry × ModelEntry). Ok (with_undone p.1 p.0 s)) (parted_end y ys x)
 
 -- ---- what may be taken back
 

@@ -1,6 +1,5 @@
 -- Worked examples of what is asked of a list and of how it is changed.
 use Rattle.std.proofs.Common.{◌≡◌, false, List, [], ◌∷◌, None, Some, codes, refl}
-use Rattle.ve_base.specs.declared.attrs.Attr.{Attr}
 use Rattle.ve_base.specs.Empty.{empty_head}
 use Rattle.ve_kinds.specs.declared.kind.Kind.TheVariants.{P, InternalList}
 use Rattle.model_items.specs.declared.item.Item.{Item}
@@ -9,7 +8,6 @@ use Rattle.model_items.specs.declared.plain_item.PlainItem.TheVariants as plain
 use Rattle.model_change.specs.declared.tx_fault.TxFault.TheVariants.{BadLength, Mismatch, BadAttr}
 use Rattle.ve_tx.specs.declared.op.Op.{Op}
 use Rattle.ve_tx.specs.declared.op.Op.TheVariants.{Retain, Replace, Attribute}
-use Rattle.ve_tx.specs.Attrs.{exchanged, new_attr, place_of, count_of}
 use Rattle.ve_tx.specs.Checked.{old_size, fault_in}
 use Rattle.ve_tx.specs.Changed.{brought_by}
 use Rattle.ve_tx.specs.Making.{item_with_head}
@@ -84,26 +82,6 @@ about_is_not_set = refl
 an_attribute_may_come : fault_in [] page (Attribute (codes "id") None (Some (codes "x")) ∷ Retain 6 ∷ []) ≡ None
 unfolding page
 an_attribute_may_come = refl
-
-abbrev attrs : List Attr
-attrs = record { name = codes "id"; value = codes "x" } ∷ record { name = codes "class"; value = codes "y" } ∷ []
-
--- an attribute that is there is exchanged where it stands
-id_is_set : exchanged attrs (place_of (codes "id") None (Some (codes "x")) attrs) (count_of (Some (codes "x"))) (new_attr (codes "id") (Some (codes "z")))
-    ≡ record { name = codes "id"; value = codes "z" } ∷ record { name = codes "class"; value = codes "y" } ∷ []
-id_is_set = refl
-
--- one that comes goes to the position kept, or to the end
-lang_comes_first : exchanged attrs (place_of (codes "lang") (Some 0) None attrs) (count_of None) (new_attr (codes "lang") (Some (codes "en")))
-    ≡ record { name = codes "lang"; value = codes "en" } ∷ attrs
-lang_comes_first = refl
-
-past_the_end_is_the_end : place_of (codes "lang") (Some 7) None attrs ≡ place_of (codes "lang") None None attrs
-past_the_end_is_the_end = refl
-
-class_goes : exchanged attrs (place_of (codes "class") None (Some (codes "y")) attrs) (count_of (Some (codes "y"))) (new_attr (codes "class") None)
-    ≡ record { name = codes "id"; value = codes "x" } ∷ []
-class_goes = refl
 
 -- a changed head is an opening's alone
 a_letter_takes_no_head : item_with_head (Some empty_head) (plain.Char 97 []) ≡ plain.Char 97 []

@@ -1,10 +1,11 @@
--- Attributes with one put in, exchanged or left out.
-use Rattle.std.proofs.Common.{◌≡◌, ◌≤◌, ◌<◌, ℕ, zero, suc, ◌+◌, min, Bool, true, false, not, ◌||◌, if◌then◌else◌, List, [], ◌∷◌, ◌++◌, length, take, drop, get_or, Contains, Option, Some, None, codes, refl, sym, ap, ◌∙◌, subst, inl, inr, append_assoc, arith, take-append-drop}
+-- Attributes of which one is changed, and whose names stay apart.
+use Rattle.std.proofs.Common.{◌≡◌, ◌<◌, ℕ, zero, suc, ◌+◌, Bool, true, false, not, ◌||◌, if◌then◌else◌, List, [], ◌∷◌, ◌++◌, length, take, drop, get_or, slice_set, Contains, Option, Some, None, IsSome, codes, refl, sym, ap, ◌∙◌, subst, inl, inr, append_assoc, arith, take-append-drop}
 use Rattle.std.specs.Bool.{Decides}
+use Rattle.std.specs.List.{remove}
 use Rattle.std.specs.Str.{chars}
 use Rattle.std.proofs.lemmas.Bool.Decides.{same_from_decides}
-use Rattle.std.proofs.lemmas.List.{map-append, take_min, drop_min, drop_more, take_all, drop_all}
-use Rattle.std.proofs.lemmas.List.Elements.{Contains-append_left, Contains-append_right, Contains-append_cases}
+use Rattle.std.proofs.lemmas.List.{map-append, drop_more}
+use Rattle.std.proofs.lemmas.List.Elements.{Contains-append_right, Contains-append_cases}
 use Rattle.ve_base.specs.declared.attrs.Attr.{Attr}
 use Rattle.ve_base.specs.Names.{names, NamesApart}
 use Rattle.model_items.specs.Same.{text_same, option_same}
@@ -14,7 +15,6 @@ use Rattle.model_change.specs.Attributes.{AttrChange, value_of, position_of, att
 use Rattle.model_change.proofs.AttributeLemmas.{item_apart}
 use Rattle.model_items.specs.declared.plain_item.PlainItem.TheVariants.{Opening}
 use Rattle.ve_kinds.specs.declared.kind.Kind.TheVariants.{P}
-use Rattle.ve_tx.specs.Attrs.{exchanged, new_attr, place_of, count_of}
 
 contains_one : (x y : List ℕ) → Contains (x ∷ []) y → x ≡ y
 contains_one x y (zero, below, here) = here
@@ -34,11 +34,6 @@ apart-new (x ∷ xs) y zs apart within =
       | inr suffix ↦ apart-new xs y zs apart.1 suffix
     ]
 
-pub apart-left : (xs ys : List Attr) → NamesApart (xs ++ ys) → NamesApart xs
-apart-left [] ys apart = tt
-apart-left (x ∷ xs) ys apart =
-    (λ within. apart.0 (subst (λ l. Contains l x.name) (sym (map-append (λ (a : Attr). a.name) xs ys)) (Contains-append_left (names xs) (names ys) x.name within)), apart-left xs ys apart.1)
-
 -- the next of several attributes to be appended has a new name
 pub apart-next : (xs ys : List Attr) (i : ℕ) (y : Attr) → i < length ys → y ≡ get_or ys i y → NamesApart (xs ++ ys) → ¬ Contains (names (xs ++ take i ys)) y.name
 apart-next xs ys i y within is apart =
@@ -46,14 +41,6 @@ apart-next xs ys i y within is apart =
     let whole : xs ++ ys ≡ (xs ++ take i ys) ++ y ∷ drop (i + 1) ys =
     ap (λ l. xs ++ l) (sym (take-append-drop i ys)) ∙ ap (λ l. xs ++ (take i ys ++ l)) rest ∙ sym (append_assoc xs (take i ys) (y ∷ drop (i + 1) ys)) in
     apart-new (xs ++ take i ys) y (drop (i + 1) ys) (subst NamesApart whole apart)
-
--- what is put in between two parts has a new name there
-pub apart-put : (attrs : List Attr) (at removed : ℕ) (new : Option Attr) (y : Attr) (start made : List Attr) → new ≡ Some y → start ≡ [] → made ≡ start ++ take at attrs →
-    NamesApart (exchanged attrs at removed new) → ¬ Contains (names made) y.name
-apart-put attrs at removed new y start made is none made_is apart =
-    let there : made ≡ take at attrs = made_is ∙ ap (λ l. l ++ take at attrs) none in
-    let P : List Attr → Type 0 = λ l. ¬ Contains (names l) y.name in
-    subst P (sym there) (apart-new (take at attrs) y (drop (at + removed) attrs) (subst (λ o. NamesApart (exchanged attrs at removed o)) is apart))
 
 -- a test on a text, as the definitions compute it
 text_test : (b : Bool) (s t : List ℕ) → Decides b (s ≡ t) → b ≡ text_same s t
@@ -83,77 +70,39 @@ reserved_second a b name d e other =
     let none : text_same name (codes "about") ≡ false = sym about ∙ other in
     typeof ∙ sym (ap (λ x. x || text_same name (codes "typeof")) none)
 
-position-drop : (name : List ℕ) (attrs : List Attr) (old : List ℕ) → value_of name attrs ≡ Some old →
-    (new : List Attr) → attr_removed name attrs ≡ take (position_of name attrs) attrs ++ drop (position_of name attrs + 1) attrs
-position-drop name [] old h new = cc
-position-drop name (a ∷ attrs) old h new = by_test (λ found. position-drop name attrs old found new) (text_same a.name name) h
-  where
-    by_test : (value_of name attrs ≡ Some old → attr_removed name attrs ≡ take (position_of name attrs) attrs ++ drop (position_of name attrs + 1) attrs) →
-        (b : Bool) → (if b then Some a.value else value_of name attrs) ≡ Some old →
-        (if b then attrs else a ∷ attr_removed name attrs)
-        ≡ take (if b then 0 else suc (position_of name attrs)) (a ∷ attrs) ++ drop ((if b then 0 else suc (position_of name attrs)) + 1) (a ∷ attrs)
-    by_test rest true h = refl
-    by_test rest false h =
-        let more : suc (position_of name attrs) + 1 ≡ suc (position_of name attrs + 1) = omega arith in
-        rw more (ap (λ l. a ∷ l) (rest h))
-
-position-replace : (name value : List ℕ) (attrs : List Attr) (old : List ℕ) → value_of name attrs ≡ Some old →
-    attr_replaced name value attrs ≡ take (position_of name attrs) attrs ++ record { name = name; value = value } ∷ drop (position_of name attrs + 1) attrs
-position-replace name value [] old h = cc
-position-replace name value (a ∷ attrs) old h = by_test (position-replace name value attrs old) (text_same a.name name) refl h
-  where
-    by_test : (value_of name attrs ≡ Some old →
-        attr_replaced name value attrs ≡ take (position_of name attrs) attrs ++ record { name = name; value = value } ∷ drop (position_of name attrs + 1) attrs) →
-        (b : Bool) → text_same a.name name ≡ b → (if b then Some a.value else value_of name attrs) ≡ Some old →
-        (if b then record { name = a.name; value = value } ∷ attrs else a ∷ attr_replaced name value attrs)
-        ≡ take (if b then 0 else suc (position_of name attrs)) (a ∷ attrs)
-        ++ record { name = name; value = value } ∷ drop ((if b then 0 else suc (position_of name attrs)) + 1) (a ∷ attrs)
-    by_test rest true e h = let same = Means-text_same.equal a.name name e in λ i. record { name = same i; value = value } ∷ attrs
-    by_test rest false e h =
-        let more : suc (position_of name attrs) + 1 ≡ suc (position_of name attrs + 1) = omega arith in
-        rw more (ap (λ l. a ∷ l) (rest h))
-
--- the change is an exchange at its position
-pub exchanged-changed : (name : List ℕ) (kept : Option ℕ) (from to : Option (List ℕ)) (attrs : List Attr) → value_of name attrs ≡ from →
-    exchanged attrs (place_of name kept from attrs) (count_of from) (new_attr name to) ≡ attrs_changed name kept from to attrs
-exchanged-changed name None None None attrs h = rw (append_end attrs) refl
-  where
-    append_end : (l : List Attr) → take (length l) l ++ ([] ++ drop (length l + 0) l) ≡ l
-    append_end l = let same : length l + 0 ≡ length l = omega arith in rw same (take-append-drop (length l) l)
-exchanged-changed name (Some at) None None attrs h =
-    let same : min at (length attrs) + 0 ≡ min at (length attrs) = omega arith in rw same (take-append-drop (min at (length attrs)) attrs)
-exchanged-changed name None None (Some value) attrs h =
-    let same : length attrs + 0 ≡ length attrs = omega arith in
-    let all : take (length attrs) attrs ≡ attrs = take_all (length attrs) attrs (omega arith) in
-    let none : drop (length attrs) attrs ≡ [] = drop_all (length attrs) attrs (omega arith) in
-    rw (same, all, none) refl
-exchanged-changed name (Some at) None (Some value) attrs h =
-    let same : min at (length attrs) + 0 ≡ min at (length attrs) = omega arith in
-    rw (same, take_min at attrs, drop_min at attrs) refl
-exchanged-changed name kept (Some old) (Some value) attrs h = sym (position-replace name value attrs old h)
-exchanged-changed name kept (Some old) None attrs h = sym (position-drop name attrs old h [])
-
 -- an attribute that has a value stands at a position
-position-within : (name : List ℕ) (attrs : List Attr) (old : List ℕ) → value_of name attrs ≡ Some old → position_of name attrs + 1 ≤ length attrs
-position-within name [] old h = cc
-position-within name (a ∷ attrs) old h = by_test (position-within name attrs old) (text_same a.name name) h
+pub position-within : (name : List ℕ) (attrs : List Attr) → IsSome (value_of name attrs) → position_of name attrs < length attrs
+position-within name [] h = cc
+position-within name (a ∷ attrs) h = by (position-within name attrs) (text_same a.name name) h
   where
-    by_test : (value_of name attrs ≡ Some old → position_of name attrs + 1 ≤ length attrs) → (b : Bool) → (if b then Some a.value else value_of name attrs) ≡ Some old → (if b then 0 else suc (position_of name attrs)) + 1 ≤ suc (length attrs)
-    by_test rest true h = omega arith
-    by_test rest false h = let less = rest h in omega arith
+    by : (IsSome (value_of name attrs) → position_of name attrs < length attrs) → (b : Bool) → IsSome (if b then Some a.value else value_of name attrs) →
+        (if b then 0 else suc (position_of name attrs)) < suc (length attrs)
+    by rest true h = omega arith
+    by rest false h = let less = rest h in omega arith
 
-pub place-within : (name : List ℕ) (kept : Option ℕ) (from : Option (List ℕ)) (attrs : List Attr) → value_of name attrs ≡ from → place_of name kept from attrs + count_of from ≤ length attrs
-place-within name kept (Some old) attrs h = position-within name attrs old h
-place-within name (Some at) None attrs h = omega arith
-place-within name None None attrs h = omega arith
+-- the attribute at its position is written with another value
+pub set-replaced : (name value : List ℕ) (attrs : List Attr) (old : Attr) → IsSome (value_of name attrs) → old ≡ get_or attrs (position_of name attrs) old →
+    slice_set attrs (position_of name attrs) (record { name = old.name; value = value }) ≡ attr_replaced name value attrs
+set-replaced name value [] old h is = cc
+set-replaced name value (a ∷ attrs) old h is = by (set-replaced name value attrs old) (text_same a.name name) h is
+  where
+    by : (IsSome (value_of name attrs) → old ≡ get_or attrs (position_of name attrs) old →
+        slice_set attrs (position_of name attrs) (record { name = old.name; value = value }) ≡ attr_replaced name value attrs) →
+        (b : Bool) → IsSome (if b then Some a.value else value_of name attrs) → old ≡ get_or (a ∷ attrs) (if b then 0 else suc (position_of name attrs)) old →
+        slice_set (a ∷ attrs) (if b then 0 else suc (position_of name attrs)) (record { name = old.name; value = value })
+        ≡ (if b then record { name = a.name; value = value } ∷ attrs else a ∷ attr_replaced name value attrs)
+    by rest true h is = ap (λ (x : Attr). record { name = x.name; value = value } ∷ attrs) is
+    by rest false h is = ap (λ l. a ∷ l) (rest h is)
 
--- the same of what is found on the way
-pub exchange-is : (name : List ℕ) (kept : Option ℕ) (from to : Option (List ℕ)) (attrs lent : List Attr) (at count : ℕ) (new : Option Attr) → lent ≡ attrs →
-    at ≡ place_of name kept from lent → count ≡ count_of from → new ≡ new_attr name to → value_of name attrs ≡ from →
-    exchanged lent at count new ≡ attrs_changed name kept from to attrs
-exchange-is name kept from to attrs lent at count new lent_is at_is count_is new_is h =
-    let there : at ≡ place_of name kept from attrs = at_is ∙ ap (place_of name kept from) lent_is in
-    rw (lent_is, there, count_is, new_is) (exchanged-changed name kept from to attrs h)
+-- the attribute at its position is removed
+pub removed-out : (name : List ℕ) (attrs : List Attr) → IsSome (value_of name attrs) → remove attrs (position_of name attrs) ≡ attr_removed name attrs
+removed-out name [] h = cc
+removed-out name (a ∷ attrs) h = by (removed-out name attrs) (text_same a.name name) h
+  where
+    by : (IsSome (value_of name attrs) → remove attrs (position_of name attrs) ≡ attr_removed name attrs) → (b : Bool) → IsSome (if b then Some a.value else value_of name attrs) →
+        remove (a ∷ attrs) (if b then 0 else suc (position_of name attrs)) ≡ (if b then attrs else a ∷ attr_removed name attrs)
+    by rest true h = refl
+    by rest false h = ap (λ l. a ∷ l) (rest h)
 
 not_reserved : (b : Bool) → b ≡ false → not b ≡ true
 not_reserved true h = sym h

@@ -24,7 +24,6 @@ pub mod ByValue
 pub mod Copied
 pub mod Taken
 pub mod Checked
-pub mod Attrs
 pub mod Making
 pub mod Spliced
 pub mod Changed

@@ -1,12 +1,10 @@
 // One attribute of an opening: whether it may be changed, and the head that then comes of it.
-ghost use Rattle.std.specs.Prelude.{◌≡◌, ◌≤◌, ◌+◌, ◌++◌, length, drop, false, None, Some, All, IfOk, OnOk};
-ghost use Rattle.ve_base.specs.Names.{NamesApart};
+ghost use Rattle.std.specs.Prelude.{◌≡◌, ◌≤◌, length, drop, false, None, Some, All, IfOk, IsSome, OnOk};
 ghost use Rattle.model_items.specs.Plain.{plain, plain_list, head_in, value_at, CitesHead, CitesWell};
 ghost use Rattle.model_items.specs.Same.{text_same, option_same};
 ghost use Rattle.model_change.specs.Attributes as attributes;
-ghost use Rattle.model_change.specs.Attributes.{value_of, position_of, attrs_changed};
+ghost use Rattle.model_change.specs.Attributes.{value_of, position_of, attr_added, attr_replaced, attr_removed, attrs_changed};
 ghost use Rattle.model_change.specs.Fault.{first_allows};
-ghost use Rattle.ve_tx.specs.Attrs.{exchanged, new_attr, place_of, count_of};
 ghost use Rattle.ve_tx.specs.Checked.{change_of};
 
 use crate::normal::same_text;
@@ -82,39 +80,6 @@ pub fn may_change(list: &Linear, store: &Store, at: usize, name: &Text, from: &O
     at < list.len() && allows(store, list.get(at), name, from)
 }
 
-/// Appends copies of attributes.
-fn append(alloc: Global, made: &mut Attrs, more: &[Attr]) -> Result<(), Memory>
-    requires { NamesApart (made.old ++ more.now) }
-    ensures { OnOk result (made.new ≡ made.old ++ more.now) }
-{
-    for attr in more {
-        made.push(attr.copy(alloc)?)?;
-    }
-    Ok(())
-}
-
-/// A copy in which `removed` attributes from a position on are exchanged for a new one, or for
-/// none.
-fn exchanged(
-    alloc: Global,
-    attrs: &[Attr],
-    at: usize,
-    removed: usize,
-    new: Option<Attr>,
-) -> Result<Attrs, Memory>
-    requires within { at + removed ≤ length attrs.now }
-    requires apart { NamesApart (exchanged attrs.now at removed new) }
-    ensures { IfOk result (λ made. made ≡ exchanged attrs.now at removed new) }
-{
-    let mut made = Attrs::new(alloc);
-    append(alloc, &mut made, &attrs[..at])?;
-    if let Some(attr) = new {
-        made.push(attr)?;
-    }
-    append(alloc, &mut made, &attrs[at + removed..])?;
-    Ok(made)
-}
-
 /// How many attributes stand before the one of this name; all, where there is none.
 pub fn position(attrs: &[Attr], name: &Text) -> usize
     ensures place { result ≡ position_of name.now attrs.now }
@@ -128,60 +93,83 @@ pub fn position(attrs: &[Attr], name: &Text) -> usize
     attrs.len()
 }
 
-/// Where a change is made: at the attribute that is there, or else at the position kept for it, or
-/// the end.
-fn place(attrs: &[Attr], name: &Text, kept: Option<usize>, from: &Option<Text>) -> usize
-    ensures { result ≡ place_of name.now kept from.now attrs.now }
+/// Gives the attribute of this name another value.
+fn set_value(list: &mut Vec<Attr>, name: &Text, value: Text)
+    requires { IsSome (value_of name.now list.old.items) }
+    ensures { list.new.items ≡ attr_replaced name.now value list.old.items }
 {
-    match (from, kept) {
-        (Some(_), _) => position(attrs, name),
-        (None, Some(at)) => at.min(attrs.len()),
-        (None, None) => attrs.len(),
+    let at = position(list.as_slice(), name);
+    list[at].value = value;
+}
+
+/// Takes the attribute of this name out.
+fn take_out(list: &mut Vec<Attr>, name: &Text)
+    requires { IsSome (value_of name.now list.old.items) }
+    ensures { list.new.items ≡ attr_removed name.now list.old.items }
+{
+    let at = position(list.as_slice(), name);
+    list.remove(at);
+}
+
+/// Puts an attribute in at the position kept for it, or else at the end.
+fn put_in(list: &mut Vec<Attr>, kept: Option<usize>, attr: Attr) -> Result<(), Memory>
+    ensures { OnOk result (list.new.items ≡ attr_added kept attr list.old.items) }
+{
+    match kept {
+        Some(at) => list.insert(at.min(list.len()), attr)?,
+        None => list.push(attr)?,
+    }
+    Ok(())
+}
+
+/// Takes one attribute of a list from its present value to another.
+fn change(
+    alloc: Global,
+    list: &mut Vec<Attr>,
+    name: &Text,
+    kept: Option<usize>,
+    from: &Option<Text>,
+    to: &Option<Text>,
+) -> Result<(), Memory>
+    requires { value_of name.now list.old.items ≡ from.now }
+    ensures { OnOk result (
+        list.new.items ≡ attrs_changed name.now kept from.now to.now list.old.items) }
+{
+    match (from, to) {
+        (None, None) => Ok(()),
+        (None, Some(value)) => {
+            let attr = Attr {
+                name: name.copy(alloc)?,
+                value: value.copy(alloc)?,
+            };
+            put_in(list, kept, attr)
+        }
+        (Some(_), Some(value)) => {
+            set_value(list, name, value.copy(alloc)?);
+            Ok(())
+        }
+        (Some(_), None) => {
+            take_out(list, name);
+            Ok(())
+        }
     }
 }
 
-fn count(from: &Option<Text>) -> usize
-    ensures { result ≡ count_of from.now }
-{
-    match from {
-        Some(_) => 1,
-        None => 0,
-    }
-}
-
-fn attribute(alloc: Global, name: &Text, to: &Option<Text>) -> Result<Option<Attr>, Memory>
-    ensures { IfOk result (λ attr. attr ≡ new_attr name.now to.now) }
-{
-    match to {
-        Some(value) => Ok(Some(Attr {
-            name: name.copy(alloc)?,
-            value: value.copy(alloc)?,
-        })),
-        None => Ok(None),
-    }
-}
-
-/// A copy of attributes in which one goes from its present value to another. One that comes is put
-/// at the position kept for it, or at the end.
+/// The attributes after one of them went from its present value to another. One that comes is put
+/// at the position kept for it, or at the end. No other one is copied.
 pub fn changed(
     alloc: Global,
-    attrs: &Attrs,
+    attrs: Attrs,
     name: &Text,
     kept: Option<usize>,
     from: &Option<Text>,
     to: &Option<Text>,
 ) -> Result<Attrs, Memory>
-    requires present { value_of name.now attrs.now ≡ from.now }
+    requires present { value_of name.now attrs ≡ from.now }
     requires free { attributes.is_reserved name.now ≡ false }
-    ensures { IfOk result (λ made. made ≡ attrs_changed name.now kept from.now to.now attrs.now) }
+    ensures { IfOk result (λ made. made ≡ attrs_changed name.now kept from.now to.now attrs) }
 {
-    let attrs = attrs.as_slice();
-    let new = attribute(alloc, name, to)?;
-    exchanged(
-        alloc,
-        attrs,
-        place(attrs, name, kept, from),
-        count(from),
-        new,
-    )
+    let mut list = attrs.into_vec();
+    change(alloc, &mut list, name, kept, from, to)?;
+    Ok(Attrs::from_vec(list))
 }

@@ -80,7 +80,7 @@ pub fn next_head(
         reference,
         owner,
     } = head;
-    let attrs = changed(alloc, &attrs, name, kept, from, to)?;
+    let attrs = changed(alloc, attrs, name, kept, from, to)?;
     Ok(Head {
         tag,
         attrs,

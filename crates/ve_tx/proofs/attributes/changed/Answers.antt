@@ -1,22 +1,11 @@
-use Rattle.std.proofs.Common.{sym, subst}
+use Rattle.std.proofs.Common.{sym, ap, ◌∙◌, subst}
 use Rattle.ve_base.specs.Names.{NamesApart}
-use Rattle.ve_tx.proofs.AttrsLemmas.{place-within, exchange-is, apart-changed}
+use Rattle.model_change.specs.Attributes.{attrs_changed}
+use Rattle.ve_tx.proofs.AttrsLemmas.{apart-changed}
 use Rattle.ve_tx.proofs.attributes.changed.Goals as goal
 
-pub exchanged-requires-clause-within : goal.exchanged-requires-clause-within
-exchanged-requires-clause-within c =
-    rw (c.place.ensures, c.count.ensures, c.as_slice-attrs.ensures.items) (place-within c.args.name.now c.args.kept c.args.from.now c.args.attrs.now c.requires.present)
-
-pub exchanged-requires-clause-apart : goal.exchanged-requires-clause-apart
-exchanged-requires-clause-apart c =
-    let made = exchange-is c.args.name.now c.args.kept c.args.from.now c.args.to.now c.args.attrs.now c.as_slice-attrs.result.now c.place.result c.count.result c.in_ok-new.new
-    c.as_slice-attrs.ensures.items c.place.ensures c.count.ensures c.in_ok-new.ensures c.requires.present in
+pub from_vec-requires : goal.from_vec-requires
+from_vec-requires c =
+    let made = c.in_ok-change.ensures ∙ ap (attrs_changed c.args.name.now c.args.kept c.args.from.now c.args.to.now) c.into_vec-list.ensures.items in
     subst NamesApart (sym made)
-    (apart-changed c.args.name.now c.args.kept c.args.from.now c.args.to.now c.args.attrs.now c.requires.present c.requires.free
-    (subst NamesApart c.as_slice-attrs.ensures.items (subst NamesApart (sym c.as_slice-attrs.ensures.items) c.as_slice-attrs.ensures.apart)))
-
-pub returns : goal.returns
-returns c =
-    let made = exchange-is c.args.name.now c.args.kept c.args.from.now c.args.to.now c.args.attrs.now c.as_slice-attrs.result.now c.place.result c.count.result c.in_ok-new.new
-    c.as_slice-attrs.ensures.items c.place.ensures c.count.ensures c.in_ok-new.ensures c.requires.present in
-    rw made at c.exchanged.ensures
+    (apart-changed c.args.name.now c.args.kept c.args.from.now c.args.to.now c.args.attrs c.requires.present c.requires.free c.into_vec-list.ensures.apart)
