@@ -83,7 +83,7 @@ pub one_more_last : (name : List ℕ) (noted more texts : List (List ℕ)) → H
 one_more_last name noted more texts same noting other = (
   λ h. elim ((noting other).0 h) [ inl is ↦ Contains-append_right texts (name ∷ []) other (is_first name other [] is) | inr before ↦ Contains-append_left texts (name ∷ []) other ((same other).0 before) ],
   λ h. elim (Contains-append_cases texts (name ∷ []) other h) [
-      | inl before ↦ (noting other).1 (inr ((same other).1 before))
-      | inr last ↦ elim (first_or_later name other [] last) [ inl is ↦ (noting other).1 (inl is) | inr none ↦ absurd (let no : ⊥ = omega (arith, none.1) in no) ]
-    ],
+    | inl before ↦ (noting other).1 (inr ((same other).1 before))
+    | inr last ↦ elim (first_or_later name other [] last) [ inl is ↦ (noting other).1 (inl is) | inr none ↦ absurd (let no : ⊥ = omega (arith, none.1) in no) ]
+  ],
 )

@@ -69,9 +69,9 @@ one_of name x xs other Equal rest h = inr h
 one_of name x xs other Greater rest h = elim (first_or_later (chars x.now) other (texts_of (insert_key order xs name)) h) [
   | inl first ↦ inr (is_first (chars x.now) other (texts_of xs) first)
   | inr later ↦ elim (rest later) [
-      | inl same ↦ inl same
-      | inr before ↦ inr (is_later (chars x.now) other (texts_of xs) before)
-    ]
+    | inl same ↦ inl same
+    | inr before ↦ inr (is_later (chars x.now) other (texts_of xs) before)
+  ]
 ]
 
 one_more : (name : Bor (List ℕ)) (noted : List (Bor (List ℕ))) (other : List ℕ) → Contains (texts_of (insert_key order noted name)) other → (chars name.now ≡ other) ⊎ Contains (texts_of noted) other
