@@ -10,3 +10,6 @@ pub mod MemberLemmas
 pub mod RangeLemmas
 pub mod RunLemmas
 pub mod ShownLemmas
+mod NotedLemmas
+mod ApartLemmas
+mod SettingLemmas

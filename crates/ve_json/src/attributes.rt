@@ -1,5 +1,5 @@
 // Attributes, marks and kinds.
-ghost use Rattle.std.specs.Prelude.{◌≡◌, [], codes, map};
+ghost use Rattle.std.specs.Prelude.{◌≡◌, [], codes, map, IfOk};
 ghost use Rattle.std.specs.List.{list_all};
 ghost use Rattle.std.specs.Str.{chars};
 ghost use Rattle.serde_json.specs.View.{view, members_view};
@@ -10,11 +10,12 @@ ghost use Rattle.model_world.specs.Values as values;
 ghost use Rattle.ve_json.specs.Gives.{Reads};
 
 use crate::fault::ValueFault;
+use crate::names::Names;
 use crate::values::{member, pair_in, text_in, values_in};
 use model_edit::{Kinds, Shape, Shapes};
 use serde_json::{Map, Value};
 use std::alloc::Global;
-use ve_base::{Attr, Attrs, MAX_MARKS, Mark, Marks, Text};
+use ve_base::{Attr, Attrs, ListOf, MAX_MARKS, Mark, Marks, Memory, Text};
 use ve_kinds::{Kind, is_annotation_tag, kind_of_tag};
 use ve_tx::is_reserved;
 
@@ -65,23 +66,36 @@ fn attr_in(alloc: Global, json: &Value) -> Result<Attr, ValueFault>
     Ok(Attr { name, value })
 }
 
+/// Whether no two attributes have one name.
+fn are_apart(alloc: Global, attrs: &[Attr]) -> Result<bool, Memory>
+    ensures { IfOk result (λ apart. apart ≡ attributes.are_apart attrs.now) }
+{
+    let mut names = Names::new(alloc);
+    for attr in attrs {
+        let is_new = names.note(&attr.name)?;
+        if !is_new {
+            return Ok(false);
+        }
+    }
+    Ok(true)
+}
+
 /// The attributes that values are read as, where their names are distinct.
 fn attrs_of(alloc: Global, list: &[Value]) -> Result<Attrs, ValueFault>
     ensures { Reads result (
         values.such_that attributes.are_apart (
         values.all_read attributes.attr_in (map view list.now))) }
 {
-    let mut attrs = Attrs::new(alloc);
+    let mut attrs = ListOf::new(alloc);
     for json in list {
         let attr = attr_in(alloc, json)?;
-        if attrs.has_name(attr.name.as_str()) {
-            return Err(ValueFault::IllFormed);
-        }
         attrs.push(attr)?;
     }
-    // its type keeps that names are apart, which `as_slice` tells
-    let _apart = attrs.as_slice();
-    Ok(attrs)
+    let apart = are_apart(alloc, attrs.as_slice())?;
+    if !apart {
+        return Err(ValueFault::IllFormed);
+    }
+    Ok(Attrs::from_vec(attrs.into_vec()))
 }
 
 /// A list of attributes with distinct names.

@@ -1,20 +1,21 @@
 // The operations of a transaction, as a line writes them. What they remove, and the old values of
 // attributes, are the list's.
-ghost use Rattle.std.specs.Prelude.{◌≡◌, None};
+ghost use Rattle.std.specs.Prelude.{◌≡◌, ◌∷◌, true, IfOk};
 ghost use Rattle.serde_json.specs.View.{view, members_view};
-ghost use Rattle.model_world.specs.declared.edit_command.OpWords.TheVariants as words;
 ghost use Rattle.model_world.specs.Operations as operations;
 ghost use Rattle.ve_json.specs.Gives.{Reads};
+ghost use Rattle.ve_json.specs.Noted.{HaveSameNames};
+ghost use Rattle.ve_json.specs.Settings.{names_set, may_follow_setting};
 
 use crate::attributes::name_in;
 use crate::fault::ValueFault;
 use crate::item_members::all_items_in;
+use crate::names::Names;
 use crate::values::{member, number_in, text_or_null_in, values_in};
 use model_world::{OpWordList, OpWords};
 use serde_json::{Map, Value};
 use std::alloc::Global;
-use ve_base::Text;
-use ve_tx::same_text;
+use ve_base::Memory;
 
 /// `{"remove":n,"insert":items}`, of which `n` was found.
 fn removal_in(
@@ -57,30 +58,43 @@ fn op_in(alloc: Global, json: &Value) -> Result<OpWords, ValueFault>
     }
 }
 
-/// Whether the setting of this attribute may stand before these operations: up to the next retain
-/// there are only settings of other attributes.
-fn setting_may_precede(name: &Text, later: &[OpWords]) -> bool
-    ensures { result ≡ operations.word_may_precede (words.Attr name.now None) later.now }
+/// Whether these operations may follow the setting of an attribute, whatever its name.
+fn may_follow_setting(later: &[OpWords]) -> bool
+    ensures { result ≡ may_follow_setting later.now }
 {
-    for op in later {
-        match op {
-            OpWords::Retain(_) => return true,
-            OpWords::Remove { .. } => return false,
-            OpWords::Attr { name: other, .. } if same_text(name, other) => return false,
-            OpWords::Attr { .. } => {}
-        }
-    }
-    false
+    matches!(
+        later.first(),
+        Some(OpWords::Retain(_) | OpWords::Attr { .. })
+    )
 }
 
-/// Whether an operation may stand before these: no two retains or removals are neighbours.
-fn may_precede(op: &OpWords, later: &[OpWords]) -> bool
-    ensures { result ≡ operations.word_may_precede op.now later.now }
+/// Whether an operation may stand before these, which are in normal form: no two retains or removals
+/// are neighbours, and no attribute is set twice at one position. `names` has the names that these
+/// set first, and then those that are set first by all.
+fn may_precede<'a>(
+    op: &'a OpWords,
+    later: &[OpWords],
+    names: &mut Names<'a>,
+) -> Result<bool, Memory>
+    requires normal { operations.words_are_normal later.now ≡ true }
+    requires names { HaveSameNames names.old (names_set later.now) }
+    ensures may { IfOk result (λ may. may ≡ operations.word_may_precede op.now later.now) }
+    ensures names { IfOk result (λ may.
+        may ≡ true → HaveSameNames names.new (names_set (op.now ∷ later.now))) }
 {
     match op {
-        OpWords::Retain(_) => !matches!(later.first(), Some(OpWords::Retain(_))),
-        OpWords::Remove { .. } => !matches!(later.first(), Some(OpWords::Remove { .. })),
-        OpWords::Attr { name, .. } => setting_may_precede(name, later),
+        OpWords::Retain(_) => {
+            names.clear();
+            Ok(!matches!(later.first(), Some(OpWords::Retain(_))))
+        }
+        OpWords::Remove { .. } => {
+            names.clear();
+            Ok(!matches!(later.first(), Some(OpWords::Remove { .. })))
+        }
+        OpWords::Attr { name, .. } => {
+            let is_new = names.note(name)?;
+            Ok(is_new && may_follow_setting(later))
+        }
     }
 }
 
@@ -95,16 +109,25 @@ fn is_something(op: &OpWords) -> bool
     }
 }
 
-/// Whether operations are in normal form.
-fn are_normal(ops: &[OpWords]) -> bool
-    ensures { result ≡ operations.words_are_normal ops.now }
+/// Whether operations are in normal form. They are looked at from the last one back, and the names
+/// of the attributes that are set at one position are noted.
+fn are_normal(alloc: Global, ops: &[OpWords]) -> Result<bool, Memory>
+    ensures { IfOk result (λ normal. normal ≡ operations.words_are_normal ops.now) }
 {
-    for i in 0..ops.len() {
-        if !is_something(&ops[i]) || !may_precede(&ops[i], &ops[i + 1..]) {
-            return false;
+    let mut names = Names::new(alloc);
+    let mut i = ops.len();
+    while i > 0 {
+        i -= 1;
+        let op = &ops[i];
+        if !is_something(op) {
+            return Ok(false);
+        }
+        let may_stand = may_precede(op, &ops[i + 1..], &mut names)?;
+        if !may_stand {
+            return Ok(false);
         }
     }
-    true
+    Ok(true)
 }
 
 /// Operations in normal form.
@@ -117,7 +140,8 @@ pub fn ops_in(alloc: Global, json: &Value) -> Result<OpWordList, ValueFault>
         let op = op_in(alloc, json)?;
         ops.push(op)?;
     }
-    if !are_normal(ops.as_slice()) {
+    let normal = are_normal(alloc, ops.as_slice())?;
+    if !normal {
         return Err(ValueFault::IllFormed);
     }
     Ok(ops)
