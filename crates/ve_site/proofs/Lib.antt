@@ -1,3 +1,5 @@
+pub mod PatchLemmas
+mod NotedLemmas
 mod OverLemmas
 mod StandsLemmas
 mod StepLemmas

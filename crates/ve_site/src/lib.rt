@@ -30,7 +30,9 @@ mod laws;
 mod pending;
 mod sent;
 mod site;
+mod take;
+mod untold;
 
 pub use laws::{settling_performs, takes_are_bounded};
-pub use model_site::{EditFault, RedoFault, SendFault, Taken, UndoFault};
+pub use model_site::{EditFault, MAX_PATCHES, Patch, RedoFault, SendFault, Taken, UndoFault};
 pub use site::Site;

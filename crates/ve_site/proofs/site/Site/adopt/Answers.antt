@@ -24,12 +24,12 @@ invariant_of-self-2 g c =
     let now = c.push.new.self in
     let e = c.in_ok-entry.entry in
     let f = c.in_ok-entry.ensures in
-    let is = roomy_is s.editor s.seen s.sent.items s.history s.shared s.in_flight c.self.invariant room c.reserve.ensures.done c.reserve.ensures.undone in
+    let is = roomy_is s.editor s.untold s.seen s.sent.items s.history s.shared s.in_flight c.self.invariant room c.reserve.ensures.done c.reserve.ensures.undone in
     let ok : is_ok c.push.result ≡ true = sym c.is_ok-adopted.ensures.value ∙ c.if-prove.false in
     let done = ok-holds (now.done ≡ room.done ++ e ∷ []) c.push.result ok c.push.ensures.done in
     let undone = ok-holds (now.undone ≡ []) c.push.result ok c.push.ensures.undone in
     let run = subst (λ (x : Site). AllRun ts x.replica.items) (ap (λ (v : Numbered). v.site) (sym c.self.view_is)) c.requires.run in
-    with_entry_is s.editor s.seen s.sent.items room s.shared s.in_flight is ts c.admit.new.self e now f.page f.entry f.cites done undone (AllMayRun_from_runs ts s.editor.items run)
+    with_entry_is s.editor s.untold s.seen s.sent.items room s.shared s.in_flight is ts c.admit.new.self e now f.page f.entry f.cites done undone (AllMayRun_from_runs ts s.editor.items run)
 
 pub returns-clause-site : goal.returns-clause-site
 returns-clause-site g c =
@@ -39,13 +39,13 @@ returns-clause-site g c =
     let now = c.push.new.self in
     let e = c.in_ok-entry.entry in
     let f = c.in_ok-entry.ensures in
-    let is = roomy_is s.editor s.seen s.sent.items s.history s.shared s.in_flight c.self.invariant room c.reserve.ensures.done c.reserve.ensures.undone in
+    let is = roomy_is s.editor s.untold s.seen s.sent.items s.history s.shared s.in_flight c.self.invariant room c.reserve.ensures.done c.reserve.ensures.undone in
     let ok : is_ok c.push.result ≡ true = sym c.is_ok-adopted.ensures.value ∙ c.if-prove.false in
     let done = ok-holds (now.done ≡ room.done ++ e ∷ []) c.push.result ok c.push.ensures.done in
     let undone = ok-holds (now.undone ≡ []) c.push.result ok c.push.ensures.undone in
-    let same = roomy_same s.editor s.seen s.sent.items s.history s.shared s.in_flight c.self.invariant room c.reserve.ensures.done c.reserve.ensures.undone in
+    let same = roomy_same s.editor s.untold s.seen s.sent.items s.history s.shared s.in_flight c.self.invariant room c.reserve.ensures.done c.reserve.ensures.undone in
     ap (λ (x : Site). record { number = s.number; site = x })
-    (with_entry_same s.editor s.seen s.sent.items room s.shared s.in_flight is ts c.admit.new.self e now f.page f.entry f.cites done undone ∙ ap (with_entry ts) same)
+    (with_entry_same s.editor s.untold s.seen s.sent.items room s.shared s.in_flight is ts c.admit.new.self e now f.page f.entry f.cites done undone ∙ ap (with_entry ts) same)
     ∙ ap (λ (v : Numbered). with_site (with_entry ts v.site) v) c.self.view_is
 
 pub returns-in_err-entry-clause-steps : goal.returns-in_err-entry-clause-steps

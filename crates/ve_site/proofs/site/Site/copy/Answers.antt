@@ -7,7 +7,7 @@ use Rattle.ve_site.proofs.site.Site.copy.Goals as goal
 pub invariant_of-result : goal.invariant_of-result
 invariant_of-result g c =
     let s = c.self.inside in
-    copied_is s.editor s.seen s.sent.items s.history s.shared s.in_flight c.self.invariant c.in_ok-editor.editor c.into_vec.result.items c.replace_done-none.new.self
+    copied_is s.editor s.untold s.seen s.sent.items s.history s.shared s.in_flight c.self.invariant c.in_ok-editor.editor c.into_vec.result.items c.replace_done-none.new.self
     c.in_ok-editor.ensures.ok (c.into_vec.ensures ∙ (c.in_ok-sent.ensures ∙ c.as_slice.ensures.value)) (c.replace_done-none.ensures.done ∙ (c.in_ok-done.ensures ∙ c.done.ensures))
     (c.replace_done-none.ensures.undone ∙ c.new-history.ensures.undone)
 
@@ -15,7 +15,7 @@ pub returns-clause-ok : goal.returns-clause-ok
 returns-clause-ok g c =
     let s = c.self.inside in
     ap (λ x. record { number = s.number; site = x })
-    (copied_same s.editor s.seen s.sent.items s.history s.shared s.in_flight c.self.invariant c.in_ok-editor.editor c.into_vec.result.items c.replace_done-none.new.self
+    (copied_same s.editor s.untold s.seen s.sent.items s.history s.shared s.in_flight c.self.invariant c.in_ok-editor.editor c.into_vec.result.items c.replace_done-none.new.self
     c.in_ok-editor.ensures.ok (c.into_vec.ensures ∙ (c.in_ok-sent.ensures ∙ c.as_slice.ensures.value)) (c.replace_done-none.ensures.done ∙ (c.in_ok-done.ensures ∙ c.done.ensures))
     (c.replace_done-none.ensures.undone ∙ c.new-history.ensures.undone))
     ∙ ap (λ (v : Numbered). with_site (record v.site { undone = [] }) v) c.self.view_is

@@ -25,7 +25,7 @@ invariant_of-self-2 g c =
     let t = drafted s.editor.store c.args.draft.now in
     let e = c.in_ok-entry.entry in
     let now = c.push.new.self in
-    let is = roomy_is s.editor s.seen s.sent.items s.history s.shared s.in_flight c.self.invariant room c.reserve.ensures.done c.reserve.ensures.undone in
+    let is = roomy_is s.editor s.untold s.seen s.sent.items s.history s.shared s.in_flight c.self.invariant room c.reserve.ensures.done c.reserve.ensures.undone in
     let ok : is_ok c.push.result ≡ true = sym c.is_ok-pushed.ensures.value ∙ c.if-prove.false in
     let done = ok-holds (now.done ≡ room.done ++ e ∷ []) c.push.result ok c.push.ensures.done in
     let undone = ok-holds (now.undone ≡ []) c.push.result ok c.push.ensures.undone in
@@ -33,7 +33,7 @@ invariant_of-self-2 g c =
     let site = ap (λ (v : Numbered). v.site) (sym c.self.view_is) in
     let apart = subst (λ (x : Site). InsertedApart (drafted x.replica.store c.args.draft.now)) site c.requires.apart in
     let f = c.in_ok-entry.ensures in
-    edited_is s.editor s.seen s.sent.items room s.shared s.in_flight is t c.perform.new.self e now f.allowed f.page f.entry f.cites done undone reduced apart
+    edited_is s.editor s.untold s.seen s.sent.items room s.shared s.in_flight is t c.perform.new.self e now f.allowed f.page f.entry f.cites done undone reduced apart
 
 pub returns-clause-site : goal.returns-clause-site
 returns-clause-site g c =
@@ -42,14 +42,14 @@ returns-clause-site g c =
     let t = drafted s.editor.store c.args.draft.now in
     let e = c.in_ok-entry.entry in
     let now = c.push.new.self in
-    let is = roomy_is s.editor s.seen s.sent.items s.history s.shared s.in_flight c.self.invariant room c.reserve.ensures.done c.reserve.ensures.undone in
+    let is = roomy_is s.editor s.untold s.seen s.sent.items s.history s.shared s.in_flight c.self.invariant room c.reserve.ensures.done c.reserve.ensures.undone in
     let ok : is_ok c.push.result ≡ true = sym c.is_ok-pushed.ensures.value ∙ c.if-prove.false in
     let done = ok-holds (now.done ≡ room.done ++ e ∷ []) c.push.result ok c.push.ensures.done in
     let undone = ok-holds (now.undone ≡ []) c.push.result ok c.push.ensures.undone in
     let f = c.in_ok-entry.ensures in
-    let same = roomy_same s.editor s.seen s.sent.items s.history s.shared s.in_flight c.self.invariant room c.reserve.ensures.done c.reserve.ensures.undone in
+    let same = roomy_same s.editor s.untold s.seen s.sent.items s.history s.shared s.in_flight c.self.invariant room c.reserve.ensures.done c.reserve.ensures.undone in
     ap (λ (x : Site). edit (drafted x.replica.store c.args.draft.now) x) (sym (same ∙ ap (λ (v : Numbered). v.site) c.self.view_is))
-    ∙ edit_is s.editor s.seen s.sent.items room s.shared s.in_flight is t c.perform.new.self e now f.allowed f.page f.entry f.cites done undone
+    ∙ edit_is s.editor s.untold s.seen s.sent.items room s.shared s.in_flight is t c.perform.new.self e now f.allowed f.page f.entry f.cites done undone
 
 one_more : (now after a : ℕ) → after ≤ now + a → after ≤ now + (a + 0)
 one_more now after a h = omega arith

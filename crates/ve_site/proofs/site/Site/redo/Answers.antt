@@ -12,8 +12,8 @@ pub admit-requires-clause-stands : goal.admit-requires-clause-stands
 admit-requires-clause-stands g c =
     let s = c.self.inside in
     let room = c.reserve.new.self in
-    let is = roomy_is s.editor s.seen s.sent.items s.history s.shared s.in_flight c.self.invariant room c.reserve.ensures.done c.reserve.ensures.undone in
-    may_come s.editor s.seen s.sent.items room s.shared s.in_flight is c.in-Some.undone.now (sym c.in-Some.ensures)
+    let is = roomy_is s.editor s.untold s.seen s.sent.items s.history s.shared s.in_flight c.self.invariant room c.reserve.ensures.done c.reserve.ensures.undone in
+    may_come s.editor s.untold s.seen s.sent.items room s.shared s.in_flight is c.in-Some.undone.now (sym c.in-Some.ensures)
 
 pub invariant_of-self-2 : goal.invariant_of-self-2
 invariant_of-self-2 g c =
@@ -22,11 +22,11 @@ invariant_of-self-2 g c =
     let now = c.move_up.new.self in
     let e = c.in-Ok.entry in
     let f = c.in-Ok.ensures in
-    let is = roomy_is s.editor s.seen s.sent.items s.history s.shared s.in_flight c.self.invariant room c.reserve.ensures.done c.reserve.ensures.undone in
+    let is = roomy_is s.editor s.untold s.seen s.sent.items s.history s.shared s.in_flight c.self.invariant room c.reserve.ensures.done c.reserve.ensures.undone in
     let ok : is_ok c.move_up.result ≡ true = sym c.is_ok-moved.ensures.value ∙ c.if-prove.false in
     let done = ok-holds (now.done ≡ room.done ++ e ∷ []) c.move_up.result ok c.move_up.ensures.done in
     let undone = ok-holds (now.undone ≡ drop 1 room.undone) c.move_up.result ok c.move_up.ensures.undone in
-    redone_is s.editor s.seen s.sent.items room s.shared s.in_flight is c.in-Some.undone.now (sym c.in-Some.ensures) c.admit.new.self e now f.page f.entry f.cites done undone
+    redone_is s.editor s.untold s.seen s.sent.items room s.shared s.in_flight is c.in-Some.undone.now (sym c.in-Some.ensures) c.admit.new.self e now f.page f.entry f.cites done undone
 
 pub returns-clause-site : goal.returns-clause-site
 returns-clause-site g c =
@@ -35,28 +35,28 @@ returns-clause-site g c =
     let now = c.move_up.new.self in
     let e = c.in-Ok.entry in
     let f = c.in-Ok.ensures in
-    let is = roomy_is s.editor s.seen s.sent.items s.history s.shared s.in_flight c.self.invariant room c.reserve.ensures.done c.reserve.ensures.undone in
+    let is = roomy_is s.editor s.untold s.seen s.sent.items s.history s.shared s.in_flight c.self.invariant room c.reserve.ensures.done c.reserve.ensures.undone in
     let ok : is_ok c.move_up.result ≡ true = sym c.is_ok-moved.ensures.value ∙ c.if-prove.false in
     let done = ok-holds (now.done ≡ room.done ++ e ∷ []) c.move_up.result ok c.move_up.ensures.done in
     let undone = ok-holds (now.undone ≡ drop 1 room.undone) c.move_up.result ok c.move_up.ensures.undone in
-    let same = roomy_same s.editor s.seen s.sent.items s.history s.shared s.in_flight c.self.invariant room c.reserve.ensures.done c.reserve.ensures.undone in
+    let same = roomy_same s.editor s.untold s.seen s.sent.items s.history s.shared s.in_flight c.self.invariant room c.reserve.ensures.done c.reserve.ensures.undone in
     ap redo (sym (same ∙ ap (λ (v : Numbered). v.site) c.self.view_is))
-    ∙ redo_is s.editor s.seen s.sent.items room s.shared s.in_flight is c.in-Some.undone.now (sym c.in-Some.ensures) c.admit.new.self e now f.page f.entry f.cites done undone
+    ∙ redo_is s.editor s.untold s.seen s.sent.items room s.shared s.in_flight is c.in-Some.undone.now (sym c.in-Some.ensures) c.admit.new.self e now f.page f.entry f.cites done undone
 
 pub returns-in_default-admit-clause-steps : goal.returns-in_default-admit-clause-steps
 returns-in_default-admit-clause-steps g c =
     let s = c.self.inside in
     let room = c.reserve.new.self in
-    let is = roomy_is s.editor s.seen s.sent.items s.history s.shared s.in_flight c.self.invariant room c.reserve.ensures.done c.reserve.ensures.undone in
-    let same = roomy_same s.editor s.seen s.sent.items s.history s.shared s.in_flight c.self.invariant room c.reserve.ensures.done c.reserve.ensures.undone in
+    let is = roomy_is s.editor s.untold s.seen s.sent.items s.history s.shared s.in_flight c.self.invariant room c.reserve.ensures.done c.reserve.ensures.undone in
+    let same = roomy_same s.editor s.untold s.seen s.sent.items s.history s.shared s.in_flight c.self.invariant room c.reserve.ensures.done c.reserve.ensures.undone in
     subst (λ (x : Site). c.admit.new.steps ≤ c.args.steps.now + steps_over (redoing x.undone) x.replica.items) (same ∙ ap (λ (v : Numbered). v.site) c.self.view_is)
-    (redo_counts s.editor s.seen s.sent.items room s.shared s.in_flight is c.in-Some.undone.now (sym c.in-Some.ensures) c.args.steps.now c.admit.new.steps c.admit.ensures.steps)
+    (redo_counts s.editor s.untold s.seen s.sent.items room s.shared s.in_flight is c.in-Some.undone.now (sym c.in-Some.ensures) c.args.steps.now c.admit.new.steps c.admit.ensures.steps)
 
 pub returns-clause-steps : goal.returns-clause-steps
 returns-clause-steps g c =
     let s = c.self.inside in
     let room = c.reserve.new.self in
-    let is = roomy_is s.editor s.seen s.sent.items s.history s.shared s.in_flight c.self.invariant room c.reserve.ensures.done c.reserve.ensures.undone in
-    let same = roomy_same s.editor s.seen s.sent.items s.history s.shared s.in_flight c.self.invariant room c.reserve.ensures.done c.reserve.ensures.undone in
+    let is = roomy_is s.editor s.untold s.seen s.sent.items s.history s.shared s.in_flight c.self.invariant room c.reserve.ensures.done c.reserve.ensures.undone in
+    let same = roomy_same s.editor s.untold s.seen s.sent.items s.history s.shared s.in_flight c.self.invariant room c.reserve.ensures.done c.reserve.ensures.undone in
     subst (λ (x : Site). c.admit.new.steps ≤ c.args.steps.now + steps_over (redoing x.undone) x.replica.items) (same ∙ ap (λ (v : Numbered). v.site) c.self.view_is)
-    (redo_counts s.editor s.seen s.sent.items room s.shared s.in_flight is c.in-Some.undone.now (sym c.in-Some.ensures) c.args.steps.now c.admit.new.steps c.admit.ensures.steps)
+    (redo_counts s.editor s.untold s.seen s.sent.items room s.shared s.in_flight is c.in-Some.undone.now (sym c.in-Some.ensures) c.args.steps.now c.admit.new.steps c.admit.ensures.steps)

@@ -18,7 +18,7 @@ invariant_of-self-2 c =
     let room = c.reserve.new.self in
     let e = c.args.entry in
     let now = c.push.new.self in
-    let is = roomy_is s.editor s.seen s.sent.items s.history s.shared s.in_flight c.self.invariant room c.reserve.ensures.done c.reserve.ensures.undone in
+    let is = roomy_is s.editor s.untold s.seen s.sent.items s.history s.shared s.in_flight c.self.invariant room c.reserve.ensures.done c.reserve.ensures.undone in
     let ok : is_ok c.push.result ≡ true = sym c.is_ok-pushed.ensures.value ∙ c.if-prove.false in
     let done = ok-holds (now.done ≡ room.done ++ e ∷ []) c.push.result ok c.push.ensures.done in
     let undone = ok-holds (now.undone ≡ []) c.push.result ok c.push.ensures.undone in
@@ -26,7 +26,7 @@ invariant_of-self-2 c =
     let may = subst (λ (x : Site). AllMayRun h.ts x.replica.items) site h.may in
     let page = subst (λ (x : Site). c.args.editor ≡ all_performed h.ts x.replica) site h.page in
     let entry = subst (λ (x : Site). entry_by_value c.args.editor.store e ≡ entry_of h.ts x.replica) site h.entry in
-    with_entry_is s.editor s.seen s.sent.items room s.shared s.in_flight is h.ts c.args.editor e now page entry h.cites done undone may
+    with_entry_is s.editor s.untold s.seen s.sent.items room s.shared s.in_flight is h.ts c.args.editor e now page entry h.cites done undone may
 
 pub returns-clause-site : goal.returns-clause-site
 returns-clause-site c =
@@ -35,7 +35,7 @@ returns-clause-site c =
     let room = c.reserve.new.self in
     let e = c.args.entry in
     let now = c.push.new.self in
-    let is = roomy_is s.editor s.seen s.sent.items s.history s.shared s.in_flight c.self.invariant room c.reserve.ensures.done c.reserve.ensures.undone in
+    let is = roomy_is s.editor s.untold s.seen s.sent.items s.history s.shared s.in_flight c.self.invariant room c.reserve.ensures.done c.reserve.ensures.undone in
     let ok : is_ok c.push.result ≡ true = sym c.is_ok-pushed.ensures.value ∙ c.if-prove.false in
     let done = ok-holds (now.done ≡ room.done ++ e ∷ []) c.push.result ok c.push.ensures.done in
     let undone = ok-holds (now.undone ≡ []) c.push.result ok c.push.ensures.undone in
@@ -43,7 +43,7 @@ returns-clause-site c =
     let may = subst (λ (x : Site). AllMayRun h.ts x.replica.items) site h.may in
     let page = subst (λ (x : Site). c.args.editor ≡ all_performed h.ts x.replica) site h.page in
     let entry = subst (λ (x : Site). entry_by_value c.args.editor.store e ≡ entry_of h.ts x.replica) site h.entry in
-    let same = roomy_same s.editor s.seen s.sent.items s.history s.shared s.in_flight c.self.invariant room c.reserve.ensures.done c.reserve.ensures.undone in
+    let same = roomy_same s.editor s.untold s.seen s.sent.items s.history s.shared s.in_flight c.self.invariant room c.reserve.ensures.done c.reserve.ensures.undone in
     ap (λ (x : Site). record { number = s.number; site = x })
-    (with_entry_same s.editor s.seen s.sent.items room s.shared s.in_flight is h.ts c.args.editor e now page entry h.cites done undone ∙ ap (with_entry h.ts) same ∙ sym (settled_is c.args.editor e (site_of s.editor s.seen s.sent.items s.history s.shared s.in_flight) (record { ts = h.ts; may = may; page = page; entry = entry; cites = h.cites })))
+    (with_entry_same s.editor s.untold s.seen s.sent.items room s.shared s.in_flight is h.ts c.args.editor e now page entry h.cites done undone ∙ ap (with_entry h.ts) same ∙ sym (settled_is c.args.editor e (site_of s.editor s.untold s.seen s.sent.items s.history s.shared s.in_flight) (record { ts = h.ts; may = may; page = page; entry = entry; cites = h.cites })))
     ∙ ap (λ (v : Numbered). with_site (with_new_entry c.args.editor e v.site) v) c.self.view_is

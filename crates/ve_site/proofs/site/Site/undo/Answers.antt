@@ -20,36 +20,36 @@ returns-in_default-clause-refused g c =
     let s = c.self.inside in
     let none = subst (λ (es : List Entry). slice_get es (length es - 1) ≡ None) c.reserve.ensures.done (sym c.in_default.ensures) in
     subst (λ (x : Site). IsUndoRefusal (undo x) c.nothing_to_undo.result) (ap (λ (v : Numbered). v.site) c.self.view_is)
-    (nothing_undone (site_of s.editor s.seen s.sent.items s.history s.shared s.in_flight) s.history.done c.nothing_to_undo.result refl none c.nothing_to_undo.ensures)
+    (nothing_undone (site_of s.editor s.untold s.seen s.sent.items s.history s.shared s.in_flight) s.history.done c.nothing_to_undo.result refl none c.nothing_to_undo.ensures)
 
 pub of-requires : goal.of-requires
 of-requires g c =
     let s = c.self.inside in
     let room = c.reserve.new.self in
-    let is = roomy_is s.editor s.seen s.sent.items s.history s.shared s.in_flight c.self.invariant room c.reserve.ensures.done c.reserve.ensures.undone in
+    let is = roomy_is s.editor s.untold s.seen s.sent.items s.history s.shared s.in_flight c.self.invariant room c.reserve.ensures.done c.reserve.ensures.undone in
     subst (λ store. All (TxCites store) c.in-Some.last.now.txs) (sym c.doc.ensures.store)
-    (last_cites s.editor s.seen s.sent.items room s.shared s.in_flight is c.in-Some.last.now (sym c.in-Some.ensures))
+    (last_cites s.editor s.untold s.seen s.sent.items room s.shared s.in_flight is c.in-Some.last.now (sym c.in-Some.ensures))
 
 pub revert-requires-clause-cites : goal.revert-requires-clause-cites
 revert-requires-clause-cites g c =
     let s = c.self.inside in
     let room = c.reserve.new.self in
-    let is = roomy_is s.editor s.seen s.sent.items s.history s.shared s.in_flight c.self.invariant room c.reserve.ensures.done c.reserve.ensures.undone in
-    last_cites s.editor s.seen s.sent.items room s.shared s.in_flight is c.in-Some.last.now (sym c.in-Some.ensures)
+    let is = roomy_is s.editor s.untold s.seen s.sent.items s.history s.shared s.in_flight c.self.invariant room c.reserve.ensures.done c.reserve.ensures.undone in
+    last_cites s.editor s.untold s.seen s.sent.items room s.shared s.in_flight is c.in-Some.last.now (sym c.in-Some.ensures)
 
 pub revert-requires-clause-stands : goal.revert-requires-clause-stands
 revert-requires-clause-stands g c =
     let s = c.self.inside in
     let room = c.reserve.new.self in
-    let is = roomy_is s.editor s.seen s.sent.items s.history s.shared s.in_flight c.self.invariant room c.reserve.ensures.done c.reserve.ensures.undone in
-    may_go s.editor s.seen s.sent.items room s.shared s.in_flight is c.in-Some.last.now (sym c.in-Some.ensures)
+    let is = roomy_is s.editor s.untold s.seen s.sent.items s.history s.shared s.in_flight c.self.invariant room c.reserve.ensures.done c.reserve.ensures.undone in
+    may_go s.editor s.untold s.seen s.sent.items room s.shared s.in_flight is c.in-Some.last.now (sym c.in-Some.ensures)
 
 pub revert-requires-clause-uncited : goal.revert-requires-clause-uncited
 revert-requires-clause-uncited g c =
     let s = c.self.inside in
     let room = c.reserve.new.self in
-    let is = roomy_is s.editor s.seen s.sent.items s.history s.shared s.in_flight c.self.invariant room c.reserve.ensures.done c.reserve.ensures.undone in
-    cuts_uncited s.editor s.seen s.sent.items room s.shared s.in_flight is c.in-Some.last.now (sym c.in-Some.ensures)
+    let is = roomy_is s.editor s.untold s.seen s.sent.items s.history s.shared s.in_flight c.self.invariant room c.reserve.ensures.done c.reserve.ensures.undone in
+    cuts_uncited s.editor s.untold s.seen s.sent.items room s.shared s.in_flight is c.in-Some.last.now (sym c.in-Some.ensures)
 
 pub invariant_of-self-2 : goal.invariant_of-self-2
 invariant_of-self-2 g c =
@@ -58,13 +58,13 @@ invariant_of-self-2 g c =
     let now = c.move_down.new.self in
     let last = c.in-Some.last.now in
     let parcel = c.in-Ok.parcel in
-    let is = roomy_is s.editor s.seen s.sent.items s.history s.shared s.in_flight c.self.invariant room c.reserve.ensures.done c.reserve.ensures.undone in
+    let is = roomy_is s.editor s.untold s.seen s.sent.items s.history s.shared s.in_flight c.self.invariant room c.reserve.ensures.done c.reserve.ensures.undone in
     let page = not_err (c.revert.new.self ≡ reverted (entry_by_value s.editor.store last) s.editor) c.revert.result (sym c.if-is_err-2.ensures.value) c.revert.ensures.page in
     let ok : is_ok c.move_down.result ≡ true = sym c.is_ok-moved.ensures.value ∙ c.if-prove.false in
     let done = ok-holds (now.done ≡ without_last room.done) c.move_down.result ok c.move_down.ensures.done in
     let undone = ok-holds (now.undone ≡ parcel ∷ room.undone) c.move_down.result ok c.move_down.ensures.undone in
     let values = c.in-Ok.ensures.txs ∙ ap (λ store. map (by_value store) last.txs) c.doc.ensures.store in
-    undone_is s.editor s.seen s.sent.items room s.shared s.in_flight is last (sym c.in-Some.ensures) c.revert.new.self page parcel now values done undone c.in-Ok.ensures.cites
+    undone_is s.editor s.untold s.seen s.sent.items room s.shared s.in_flight is last (sym c.in-Some.ensures) c.revert.new.self page parcel now values done undone c.in-Ok.ensures.cites
 
 pub returns-clause-site : goal.returns-clause-site
 returns-clause-site g c =
@@ -73,30 +73,30 @@ returns-clause-site g c =
     let now = c.move_down.new.self in
     let last = c.in-Some.last.now in
     let parcel = c.in-Ok.parcel in
-    let is = roomy_is s.editor s.seen s.sent.items s.history s.shared s.in_flight c.self.invariant room c.reserve.ensures.done c.reserve.ensures.undone in
+    let is = roomy_is s.editor s.untold s.seen s.sent.items s.history s.shared s.in_flight c.self.invariant room c.reserve.ensures.done c.reserve.ensures.undone in
     let page = not_err (c.revert.new.self ≡ reverted (entry_by_value s.editor.store last) s.editor) c.revert.result (sym c.if-is_err-2.ensures.value) c.revert.ensures.page in
     let ok : is_ok c.move_down.result ≡ true = sym c.is_ok-moved.ensures.value ∙ c.if-prove.false in
     let done = ok-holds (now.done ≡ without_last room.done) c.move_down.result ok c.move_down.ensures.done in
     let undone = ok-holds (now.undone ≡ parcel ∷ room.undone) c.move_down.result ok c.move_down.ensures.undone in
     let values = c.in-Ok.ensures.txs ∙ ap (λ store. map (by_value store) last.txs) c.doc.ensures.store in
-    let same = roomy_same s.editor s.seen s.sent.items s.history s.shared s.in_flight c.self.invariant room c.reserve.ensures.done c.reserve.ensures.undone in
+    let same = roomy_same s.editor s.untold s.seen s.sent.items s.history s.shared s.in_flight c.self.invariant room c.reserve.ensures.done c.reserve.ensures.undone in
     ap undo (sym (same ∙ ap (λ (v : Numbered). v.site) c.self.view_is))
-    ∙ undo_is s.editor s.seen s.sent.items room s.shared s.in_flight is last (sym c.in-Some.ensures) c.revert.new.self page parcel now values done undone
+    ∙ undo_is s.editor s.untold s.seen s.sent.items room s.shared s.in_flight is last (sym c.in-Some.ensures) c.revert.new.self page parcel now values done undone
 
 pub returns-then-is_err-2-clause-steps : goal.returns-then-is_err-2-clause-steps
 returns-then-is_err-2-clause-steps g c =
     let s = c.self.inside in
     let room = c.reserve.new.self in
-    let is = roomy_is s.editor s.seen s.sent.items s.history s.shared s.in_flight c.self.invariant room c.reserve.ensures.done c.reserve.ensures.undone in
-    let same = roomy_same s.editor s.seen s.sent.items s.history s.shared s.in_flight c.self.invariant room c.reserve.ensures.done c.reserve.ensures.undone in
+    let is = roomy_is s.editor s.untold s.seen s.sent.items s.history s.shared s.in_flight c.self.invariant room c.reserve.ensures.done c.reserve.ensures.undone in
+    let same = roomy_same s.editor s.untold s.seen s.sent.items s.history s.shared s.in_flight c.self.invariant room c.reserve.ensures.done c.reserve.ensures.undone in
     subst (λ (x : Site). c.revert.new.steps ≤ c.args.steps.now + steps_over (undoing x.unsent) x.replica.items) (same ∙ ap (λ (v : Numbered). v.site) c.self.view_is)
-    (undo_counts s.editor s.seen s.sent.items room s.shared s.in_flight is c.in-Some.last.now (sym c.in-Some.ensures) c.args.steps.now c.revert.new.steps c.revert.ensures.steps)
+    (undo_counts s.editor s.untold s.seen s.sent.items room s.shared s.in_flight is c.in-Some.last.now (sym c.in-Some.ensures) c.args.steps.now c.revert.new.steps c.revert.ensures.steps)
 
 pub returns-clause-steps : goal.returns-clause-steps
 returns-clause-steps g c =
     let s = c.self.inside in
     let room = c.reserve.new.self in
-    let is = roomy_is s.editor s.seen s.sent.items s.history s.shared s.in_flight c.self.invariant room c.reserve.ensures.done c.reserve.ensures.undone in
-    let same = roomy_same s.editor s.seen s.sent.items s.history s.shared s.in_flight c.self.invariant room c.reserve.ensures.done c.reserve.ensures.undone in
+    let is = roomy_is s.editor s.untold s.seen s.sent.items s.history s.shared s.in_flight c.self.invariant room c.reserve.ensures.done c.reserve.ensures.undone in
+    let same = roomy_same s.editor s.untold s.seen s.sent.items s.history s.shared s.in_flight c.self.invariant room c.reserve.ensures.done c.reserve.ensures.undone in
     subst (λ (x : Site). c.revert.new.steps ≤ c.args.steps.now + steps_over (undoing x.unsent) x.replica.items) (same ∙ ap (λ (v : Numbered). v.site) c.self.view_is)
-    (undo_counts s.editor s.seen s.sent.items room s.shared s.in_flight is c.in-Some.last.now (sym c.in-Some.ensures) c.args.steps.now c.revert.new.steps c.revert.ensures.steps)
+    (undo_counts s.editor s.untold s.seen s.sent.items room s.shared s.in_flight is c.in-Some.last.now (sym c.in-Some.ensures) c.args.steps.now c.revert.new.steps c.revert.ensures.steps)
