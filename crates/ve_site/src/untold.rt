@@ -75,6 +75,19 @@ impl Untold {
         }
     }
 
+    /// Notes that an attribute of the item at a position changed.
+    fn note_attribute(&mut self, at: usize)
+        ensures { self.new
+            ≡ with_patches (record { at = at; removed = 1; inserted = 1 } ∷ []) self.old }
+    {
+        let changed = Patch {
+            at,
+            removed: 1,
+            inserted: 1,
+        };
+        self.put(changed);
+    }
+
     /// Notes an operation at a position of the new list, and gives the position after it.
     fn note_op(&mut self, at: usize, op: &Op) -> usize
         requires { at + size op.now ≤ max_total_length }
@@ -95,11 +108,7 @@ impl Untold {
                 at + inserted
             }
             Op::Attribute { .. } => {
-                self.put(Patch {
-                    at,
-                    removed: 1,
-                    inserted: 1,
-                });
+                self.note_attribute(at);
                 at
             }
         }
@@ -125,11 +134,7 @@ impl Untold {
                 at + removed
             }
             Op::Attribute { .. } => {
-                self.put(Patch {
-                    at,
-                    removed: 1,
-                    inserted: 1,
-                });
+                self.note_attribute(at);
                 at
             }
         }

@@ -1,4 +1,6 @@
-use Rattle.std.proofs.Common.{◌≡◌, ◌≤◌, ◌+◌, [], ◌∷◌, ◌++◌, true, is_ok, drop, sym, ap, ◌∙◌, subst}
+use Rattle.std.proofs.Common.{◌≡◌, ◌≤◌, ◌+◌, [], ◌∷◌, ◌++◌, true, is_ok, drop, sym, ap, ◌∙◌, subst, List, map}
+use Rattle.model_site.specs.Untold.{passed}
+use Rattle.ve_tx.specs.Operation.{Operation, by_value}
 use Rattle.ve_tx.proofs.ChangeLemmas.{ok-holds}
 use Rattle.ve_site.specs.Numbered.{Numbered}
 use Rattle.ve_site.proofs.StepLemmas.{roomy_same, roomy_is}
@@ -26,7 +28,9 @@ invariant_of-self-2 g c =
     let ok : is_ok c.move_up.result ≡ true = sym c.is_ok-moved.ensures.value ∙ c.if-prove.false in
     let done = ok-holds (now.done ≡ room.done ++ e ∷ []) c.move_up.result ok c.move_up.ensures.done in
     let undone = ok-holds (now.undone ≡ drop 1 room.undone) c.move_up.result ok c.move_up.ensures.undone in
-    redone_is s.editor s.untold s.seen s.sent.items room s.shared s.in_flight is c.in-Some.undone.now (sym c.in-Some.ensures) c.admit.new.self e now f.page f.entry f.cites done undone
+    let noted : c.note.new.self ≡ passed (map (by_value c.admit.new.self.store) e.txs) s.untold =
+    c.note.ensures c.admit.new.self.store ∙ ap (λ (txs : List (List Operation)). passed (map (by_value c.admit.new.self.store) txs) s.untold) c.as_slice.ensures in
+    redone_is s.editor s.untold s.seen s.sent.items room s.shared s.in_flight is c.in-Some.undone.now (sym c.in-Some.ensures) c.admit.new.self e now c.note.new.self f.page f.entry f.cites done noted undone
 
 pub returns-clause-site : goal.returns-clause-site
 returns-clause-site g c =
@@ -39,9 +43,11 @@ returns-clause-site g c =
     let ok : is_ok c.move_up.result ≡ true = sym c.is_ok-moved.ensures.value ∙ c.if-prove.false in
     let done = ok-holds (now.done ≡ room.done ++ e ∷ []) c.move_up.result ok c.move_up.ensures.done in
     let undone = ok-holds (now.undone ≡ drop 1 room.undone) c.move_up.result ok c.move_up.ensures.undone in
+    let noted : c.note.new.self ≡ passed (map (by_value c.admit.new.self.store) e.txs) s.untold =
+    c.note.ensures c.admit.new.self.store ∙ ap (λ (txs : List (List Operation)). passed (map (by_value c.admit.new.self.store) txs) s.untold) c.as_slice.ensures in
     let same = roomy_same s.editor s.untold s.seen s.sent.items s.history s.shared s.in_flight c.self.invariant room c.reserve.ensures.done c.reserve.ensures.undone in
     ap redo (sym (same ∙ ap (λ (v : Numbered). v.site) c.self.view_is))
-    ∙ redo_is s.editor s.untold s.seen s.sent.items room s.shared s.in_flight is c.in-Some.undone.now (sym c.in-Some.ensures) c.admit.new.self e now f.page f.entry f.cites done undone
+    ∙ redo_is s.editor s.untold s.seen s.sent.items room s.shared s.in_flight is c.in-Some.undone.now (sym c.in-Some.ensures) c.admit.new.self e now c.note.new.self f.page f.entry f.cites done noted undone
 
 pub returns-in_default-admit-clause-steps : goal.returns-in_default-admit-clause-steps
 returns-in_default-admit-clause-steps g c =

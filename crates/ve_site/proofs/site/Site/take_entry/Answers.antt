@@ -1,4 +1,6 @@
-use Rattle.std.proofs.Common.{◌≤◌, ◌+◌, ◌++◌, map, sym, ap, ◌∙◌, subst}
+use Rattle.std.proofs.Common.{◌≤◌, ◌+◌, ◌++◌, map, sym, ap, ◌∙◌, subst, List, ◌≡◌}
+use Rattle.model_site.specs.Untold.{passed}
+use Rattle.ve_tx.specs.Operation.{Operation, by_value}
 use Rattle.model_change.specs.Replay.{AllRun}
 use Rattle.model_site.specs.Site.{Site}
 use Rattle.model_site.specs.Take.{take_entry}
@@ -47,18 +49,24 @@ pub invariant_of-self-2 : goal.invariant_of-self-2
 invariant_of-self-2 g c =
     let s = c.self.inside in
     let run = subst (λ (x : Site). AllRun (parcel_by_value c.args.foreign.now) (ground_of x)) (ap (λ (v : Numbered). v.site) (sym c.self.view_is)) c.requires.run in
+    let committed = c.in_ok-committed.field-0.committed in
+    let noted : c.note.new.self ≡ passed (parcel_by_value committed) c.note_dropped.new.untold =
+    c.note.ensures committed.values ∙ ap (λ (txs : List (List Operation)). passed (map (by_value committed.values) txs) c.note_dropped.new.untold) c.as_slice-2.ensures in
     let stored = c.in_ok-stored.stored in
     let first = c.renumbered.ensures ∙ ap (map (numbered_alike stored)) c.in_ok-sent.ensures.first in
     let done = c.clear_undone.ensures.done ∙ (c.replace_done-gone.ensures.done ∙ (c.from_vec-done.ensures ∙ (c.renumbered-2.ensures ∙ ap (map (numbered_alike stored)) c.in_ok-sent.ensures.second))) in
     lent_is_site s.editor s.untold s.seen s.sent.items s.history s.shared s.in_flight c.self.invariant c.args.foreign.now run c.as_slice-own_sent.result.now c.done-own_unsent.result.now
     c.as_slice-own_sent.ensures.value c.done-own_unsent.ensures c.in_ok-committed.field-0 c.in_ok-committed.ensures c.as_slice-left.result.now c.as_slice-left.ensures
     c.admit_under.new.editor c.in_ok-stored.ensures.admitted stored c.in-Some.seen c.renumbered.result.items c.clear_undone.new.self
-    c.in_ok-stored.ensures.stored c.in-Some.ensures.1 first done c.clear_undone.ensures.undone
+    c.note.new.self c.note_dropped.new.untold c.in_ok-stored.ensures.stored c.in-Some.ensures.1 first done c.clear_undone.ensures.undone (c.note_dropped.ensures s.editor.store) noted
 
 pub returns-clause-site : goal.returns-clause-site
 returns-clause-site g c =
     let s = c.self.inside in
     let run = subst (λ (x : Site). AllRun (parcel_by_value c.args.foreign.now) (ground_of x)) (ap (λ (v : Numbered). v.site) (sym c.self.view_is)) c.requires.run in
+    let committed = c.in_ok-committed.field-0.committed in
+    let noted : c.note.new.self ≡ passed (parcel_by_value committed) c.note_dropped.new.untold =
+    c.note.ensures committed.values ∙ ap (λ (txs : List (List Operation)). passed (map (by_value committed.values) txs) c.note_dropped.new.untold) c.as_slice-2.ensures in
     let stored = c.in_ok-stored.stored in
     let first = c.renumbered.ensures ∙ ap (map (numbered_alike stored)) c.in_ok-sent.ensures.first in
     let done = c.clear_undone.ensures.done ∙ (c.replace_done-gone.ensures.done ∙ (c.from_vec-done.ensures ∙ (c.renumbered-2.ensures ∙ ap (map (numbered_alike stored)) c.in_ok-sent.ensures.second))) in
@@ -66,20 +74,23 @@ returns-clause-site g c =
     (lent_same s.editor s.untold s.seen s.sent.items s.history s.shared s.in_flight c.self.invariant c.args.foreign.now run c.as_slice-own_sent.result.now c.done-own_unsent.result.now
     c.as_slice-own_sent.ensures.value c.done-own_unsent.ensures c.in_ok-committed.field-0 c.in_ok-committed.ensures c.as_slice-left.result.now c.as_slice-left.ensures
     c.admit_under.new.editor c.in_ok-stored.ensures.admitted stored c.in-Some.seen c.renumbered.result.items c.clear_undone.new.self
-    c.in_ok-stored.ensures.stored c.in-Some.ensures.1 first done c.clear_undone.ensures.undone)
+    c.note.new.self c.note_dropped.new.untold c.in_ok-stored.ensures.stored c.in-Some.ensures.1 first done c.clear_undone.ensures.undone (c.note_dropped.ensures s.editor.store) noted)
     ∙ ap (λ (v : Numbered). with_site (take_entry (parcel_by_value c.args.foreign.now) v.site) v) c.self.view_is
 
 pub returns-clause-left : goal.returns-clause-left
 returns-clause-left g c =
     let s = c.self.inside in
     let run = subst (λ (x : Site). AllRun (parcel_by_value c.args.foreign.now) (ground_of x)) (ap (λ (v : Numbered). v.site) (sym c.self.view_is)) c.requires.run in
+    let committed = c.in_ok-committed.field-0.committed in
+    let noted : c.note.new.self ≡ passed (parcel_by_value committed) c.note_dropped.new.untold =
+    c.note.ensures committed.values ∙ ap (λ (txs : List (List Operation)). passed (map (by_value committed.values) txs) c.note_dropped.new.untold) c.as_slice-2.ensures in
     let stored = c.in_ok-stored.stored in
     let first = c.renumbered.ensures ∙ ap (map (numbered_alike stored)) c.in_ok-sent.ensures.first in
     let done = c.clear_undone.ensures.done ∙ (c.replace_done-gone.ensures.done ∙ (c.from_vec-done.ensures ∙ (c.renumbered-2.ensures ∙ ap (map (numbered_alike stored)) c.in_ok-sent.ensures.second))) in
     lent_pending s.editor s.untold s.seen s.sent.items s.history s.shared s.in_flight c.self.invariant c.args.foreign.now run c.as_slice-own_sent.result.now c.done-own_unsent.result.now
     c.as_slice-own_sent.ensures.value c.done-own_unsent.ensures c.in_ok-committed.field-0 c.in_ok-committed.ensures c.as_slice-left.result.now c.as_slice-left.ensures
     c.admit_under.new.editor c.in_ok-stored.ensures.admitted stored c.in-Some.seen c.renumbered.result.items c.clear_undone.new.self
-    c.in_ok-stored.ensures.stored c.in-Some.ensures.1 first done c.clear_undone.ensures.undone
+    c.note.new.self c.note_dropped.new.untold c.in_ok-stored.ensures.stored c.in-Some.ensures.1 first done c.clear_undone.ensures.undone (c.note_dropped.ensures s.editor.store) noted
 
 pub returns-clause-steps : goal.returns-clause-steps
 returns-clause-steps g c =

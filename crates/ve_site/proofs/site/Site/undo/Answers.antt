@@ -1,9 +1,11 @@
 use Rattle.std.proofs.Common.{◌≡◌, ◌≤◌, ◌+◌, ◌-◌, ◌∷◌, true, is_ok, List, length, map, slice_get, All, None, refl, sym, ap, ◌∙◌, subst}
+use Rattle.model_change.specs.Replay.{reversal}
+use Rattle.model_site.specs.Untold.{passed}
 use Rattle.model_site.specs.Entries.{reverted}
 use Rattle.model_site.specs.Site.{Site, undo}
 use Rattle.ve_tx.specs.declared.entry.Entry.{Entry}
 use Rattle.ve_tx.specs.Cites.{TxCites}
-use Rattle.ve_tx.specs.Operation.{by_value}
+use Rattle.ve_tx.specs.Operation.{by_value, Operation}
 use Rattle.ve_tx.proofs.ChangeLemmas.{ok-holds}
 use Rattle.ve_editor.specs.Edited.{entry_by_value}
 use Rattle.ve_history.specs.Stacks.{without_last}
@@ -63,8 +65,10 @@ invariant_of-self-2 g c =
     let ok : is_ok c.move_down.result ≡ true = sym c.is_ok-moved.ensures.value ∙ c.if-prove.false in
     let done = ok-holds (now.done ≡ without_last room.done) c.move_down.result ok c.move_down.ensures.done in
     let undone = ok-holds (now.undone ≡ parcel ∷ room.undone) c.move_down.result ok c.move_down.ensures.undone in
+    let noted : c.note_back.new.self ≡ passed (reversal (map (by_value s.editor.store) last.txs)) s.untold =
+    c.note_back.ensures s.editor.store ∙ ap (λ (txs : List (List Operation)). passed (reversal (map (by_value s.editor.store) txs)) s.untold) c.as_slice.ensures in
     let values = c.in-Ok.ensures.txs ∙ ap (λ store. map (by_value store) last.txs) c.doc.ensures.store in
-    undone_is s.editor s.untold s.seen s.sent.items room s.shared s.in_flight is last (sym c.in-Some.ensures) c.revert.new.self page parcel now values done undone c.in-Ok.ensures.cites
+    undone_is s.editor s.untold s.seen s.sent.items room s.shared s.in_flight is last (sym c.in-Some.ensures) c.revert.new.self page parcel now c.note_back.new.self values done undone noted c.in-Ok.ensures.cites
 
 pub returns-clause-site : goal.returns-clause-site
 returns-clause-site g c =
@@ -78,10 +82,12 @@ returns-clause-site g c =
     let ok : is_ok c.move_down.result ≡ true = sym c.is_ok-moved.ensures.value ∙ c.if-prove.false in
     let done = ok-holds (now.done ≡ without_last room.done) c.move_down.result ok c.move_down.ensures.done in
     let undone = ok-holds (now.undone ≡ parcel ∷ room.undone) c.move_down.result ok c.move_down.ensures.undone in
+    let noted : c.note_back.new.self ≡ passed (reversal (map (by_value s.editor.store) last.txs)) s.untold =
+    c.note_back.ensures s.editor.store ∙ ap (λ (txs : List (List Operation)). passed (reversal (map (by_value s.editor.store) txs)) s.untold) c.as_slice.ensures in
     let values = c.in-Ok.ensures.txs ∙ ap (λ store. map (by_value store) last.txs) c.doc.ensures.store in
     let same = roomy_same s.editor s.untold s.seen s.sent.items s.history s.shared s.in_flight c.self.invariant room c.reserve.ensures.done c.reserve.ensures.undone in
     ap undo (sym (same ∙ ap (λ (v : Numbered). v.site) c.self.view_is))
-    ∙ undo_is s.editor s.untold s.seen s.sent.items room s.shared s.in_flight is last (sym c.in-Some.ensures) c.revert.new.self page parcel now values done undone
+    ∙ undo_is s.editor s.untold s.seen s.sent.items room s.shared s.in_flight is last (sym c.in-Some.ensures) c.revert.new.self page parcel now c.note_back.new.self values done undone noted
 
 pub returns-then-is_err-2-clause-steps : goal.returns-then-is_err-2-clause-steps
 returns-then-is_err-2-clause-steps g c =
