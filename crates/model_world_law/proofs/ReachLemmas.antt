@@ -42,6 +42,7 @@ use Rattle.model_site_law.specs.ItemLaws.{AllPass, Inserts}
 use Rattle.model_site_law.specs.Protocol.{Every}
 use Rattle.model_site_law.proofs.ItemLemmas.{items_keep}
 use Rattle.model_world_law.specs.Standing.{may_stand}
+use Rattle.model_world_law.specs.ViewLines.{teller}
 use Rattle.model_world_law.proofs.ChangeStand.{changes_stand, moves_stand, pages_stand}
 use Rattle.model_world_law.proofs.StandLemmas.{setting_keeps}
 use Rattle.model_world_law.proofs.LinkLemmas.{Stands, LeadsBy, asked_leads}
@@ -122,17 +123,17 @@ abbrev AnswerReached : List (List ℕ) → Answer → Type 0
 AnswerReached lines (Ok r) = WorldReached lines r.1
 AnswerReached lines (Err r) = Unit {0}
 
-page_reached : {t : Option ℕ} (past : List (List ℕ)) (line : List ℕ) (o : Opened) (w : Session) → IsReached past o w → (a : Asked) → a.session ≡ w → (r : Outcome) → LeadsBy t a r →
+page_reached : (t : Option ℕ) (past : List (List ℕ)) (line : List ℕ) (o : Opened) (w : Session) → IsReached past o w → (a : Asked) → a.session ≡ w → (r : Outcome) → LeadsBy t a r →
     AnswerReached (past ++ line ∷ []) (on_page o r)
-page_reached {t = t} past line o w reached a e (Ok r) b = further past line o w r.1 reached (subst (λ v. Becomes t v r.1) e b)
-page_reached past line o w reached a e (Err r) b = tt
+page_reached t past line o w reached a e (Ok r) b = further past line o w r.1 reached (subst (λ v. Becomes t v r.1) e b)
+page_reached t past line o w reached a e (Err r) b = tt
 
 member_reached : LayersFit → (past : List (List ℕ)) (line : List ℕ) (o : Opened) (w : Session) → IsReached past o w → (r : Request) (k : ℕ) → RequestWritten r →
     (x : Option Member) → slice_get w.members k ≡ x → AnswerReached (past ++ line ∷ []) (asked_of o w r k x)
 member_reached fit past line o w reached r k written None e = tt
 member_reached fit past line o w reached r k written (Some m) e =
     let a : Asked = record { page = o; session = w; k = k; member = m } in
-    page_reached past line o w reached a refl (request_outcome a r) (asked_leads fit a (site_stands past o w k m reached e) r written)
+    page_reached (teller r k) past line o w reached a refl (request_outcome a r) (asked_leads fit a (site_stands past o w k m reached e) r written)
 
 ask_reached : LayersFit → (past : List (List ℕ)) (line : List ℕ) (w : World) → WorldReached past w → (r : Request) (k : ℕ) → RequestWritten r →
     AnswerReached (past ++ line ∷ []) (answer_of w (Ask r k))

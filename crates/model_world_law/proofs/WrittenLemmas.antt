@@ -214,38 +214,41 @@ requests_written = (
                 (
                   (λ ms. tt),
                   (
-                    show_written,
+                    (λ ms. tt),
                     (
-                      at_written (λ at. request.At at) (λ at. tt),
+                      show_written,
                       (
-                        near_written,
+                        at_written (λ at. request.At at) (λ at. tt),
                         (
-                          batch_written,
+                          near_written,
                           (
-                            select_written,
+                            batch_written,
                             (
-                              move_written,
+                              select_written,
                               (
-                                type_written,
+                                move_written,
                                 (
-                                  erase_written,
+                                  type_written,
                                   (
-                                    at_written (λ at. request.Grid at) (λ at. tt),
+                                    erase_written,
                                     (
-                                      table_written field.Row (λ at row. request.RowIn at row) (λ at row. tt),
+                                      at_written (λ at. request.Grid at) (λ at. tt),
                                       (
-                                        table_written field.Row (λ at row. request.RowOut at row) (λ at row. tt),
+                                        table_written field.Row (λ at row. request.RowIn at row) (λ at row. tt),
                                         (
-                                          table_written field.Column (λ at column. request.ColIn at column) (λ at column. tt),
+                                          table_written field.Row (λ at row. request.RowOut at row) (λ at row. tt),
                                           (
-                                            table_written field.Column (λ at column. request.ColOut at column) (λ at column. tt),
+                                            table_written field.Column (λ at column. request.ColIn at column) (λ at column. tt),
                                             (
-                                              at_written (λ at. request.Indent at) (λ at. tt),
+                                              table_written field.Column (λ at column. request.ColOut at column) (λ at column. tt),
                                               (
-                                                at_written (λ at. request.Outdent at) (λ at. tt),
+                                                at_written (λ at. request.Indent at) (λ at. tt),
                                                 (
-                                                  revoke_written,
-                                                  edit_rows changes changes_written,
+                                                  at_written (λ at. request.Outdent at) (λ at. tt),
+                                                  (
+                                                    revoke_written,
+                                                    edit_rows changes changes_written,
+                                                  ),
                                                 ),
                                               ),
                                             ),

@@ -97,7 +97,6 @@ pub fn lines_redo()
 /// What a site would tell leads from the list that it told last to its list, whatever the lines: what
 /// comes is holes, and all else is where it was. So whoever keeps the items and fetches the holes has
 /// the list.
-#[tactic(auto, using(crate::proofs::ViewLemmas::lines_show))]
 pub fn lines_show()
     ensures { LinesShow }
 {}

@@ -13,6 +13,7 @@ reply_of (answer.Items list store from to) = reply.Items (slice_range (plain_lis
 reply_of (answer.Tree words) = reply.Tree words
 reply_of (answer.At kind from to class) = reply.At kind from to class
 reply_of (answer.Offset at) = reply.Offset at
+reply_of (answer.Told count patches) = reply.Told count patches
 reply_of (answer.Refs rows) = reply.Refs rows
 reply_of (answer.Caret anchor focus) = reply.Caret anchor focus
 reply_of (answer.Sent entries) = reply.Sent entries

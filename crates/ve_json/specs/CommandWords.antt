@@ -70,6 +70,7 @@ own_words =
     ∷ (codes "send", a_request.Bare a_bare.Send)
     ∷ (codes "serve", a_request.Bare a_bare.Serve)
     ∷ (codes "take", a_request.Bare a_bare.Take)
+    ∷ (codes "changes", a_request.Bare a_bare.Changes)
     ∷ (codes "data", a_request.Show)
     ∷ (codes "at", a_request.Place a_place.At)
     ∷ (codes "near", a_request.Near)
@@ -104,6 +105,7 @@ bare_request a_bare.Redo = request.Redo
 bare_request a_bare.Send = request.Send
 bare_request a_bare.Serve = request.Serve
 bare_request a_bare.Take = request.Take
+bare_request a_bare.Changes = request.Tell
 
 abbrev pub place_read : PlaceWord → Reader Request
 place_read a_place.At = commands.at_read (λ at. request.At at)

@@ -18,7 +18,8 @@ use crate::tree_rows::push_tree;
 use model_edit::GridCell;
 use model_items::OffsetClass;
 use model_page::{RefRow, RefTable};
-use model_world::{GridCells, Refusal, TreeWord, TreeWords, class_name, kind_name};
+use model_site::Patch;
+use model_world::{GridCells, PatchList, Refusal, TreeWord, TreeWords, class_name, kind_name};
 use std::alloc::Global;
 use std::mem::replace;
 use ve_base::{Bytes, Memory, Text};
@@ -51,6 +52,11 @@ pub enum Answer<'a> {
     },
     /// A content offset.
     Offset(usize),
+    /// How many items the list has, and what changed in it.
+    Told {
+        count: usize,
+        patches: PatchList,
+    },
     /// The table of references.
     Refs(RefTable),
     /// Where the selection stands.
@@ -229,6 +235,22 @@ fn push_grid(
     push_list(alloc, cells, out)
 }
 
+/// Appends the length of a list and what changed in it.
+fn push_told(
+    alloc: Global,
+    count: usize,
+    patches: &[Patch],
+    out: &mut Spelling,
+) -> Result<(), Memory>
+    ensures ok { OnOk result (
+        out.new.text ≡ out.old.text ++ model.reply_text (reply.Told count patches.now)) }
+    ensures before { out.new.before ≡ out.old.before }
+{
+    push_count(alloc, "ok", Numbers::One(count), out)?;
+    out.push_byte(b' ')?;
+    push_list(alloc, patches, out)
+}
+
 /// Appends a refusal.
 fn push_refusal(alloc: Global, refusal: Refusal, out: &mut Spelling) -> Result<(), Memory>
     ensures ok { OnOk result (out.new.text ≡ out.old.text ++ model.reply_text (reply.No refusal)) }
@@ -298,6 +320,7 @@ fn push_answer(alloc: Global, answer: &Answer<'_>, out: &mut Spelling) -> Result
             class,
         } => push_at(alloc, *kind, (*from, *to), *class, out),
         Answer::Offset(at) => push_count(alloc, "ok", Numbers::One(*at), out),
+        Answer::Told { count, patches } => push_told(alloc, *count, patches.as_slice(), out),
         Answer::Refs(rows) => push_rows(alloc, rows.as_slice(), out),
         Answer::Caret { anchor, focus } => {
             push_count(alloc, "ok", Numbers::Two(*anchor, *focus), out)

@@ -30,6 +30,7 @@ pub enum BareWord {
     Send,
     Serve,
     Take,
+    Changes,
 }
 
 /// The word of a command that has a position alone.
@@ -101,6 +102,7 @@ fn own_word(word: &str) -> Option<RequestWord>
         "send" => RequestWord::Bare(BareWord::Send),
         "serve" => RequestWord::Bare(BareWord::Serve),
         "take" => RequestWord::Bare(BareWord::Take),
+        "changes" => RequestWord::Bare(BareWord::Changes),
         "data" => RequestWord::Show,
         "at" => RequestWord::Place(PlaceWord::At),
         "near" => RequestWord::Near,

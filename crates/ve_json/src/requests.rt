@@ -135,6 +135,7 @@ fn bare_request(word: BareWord) -> Request
         BareWord::Send => Request::Send,
         BareWord::Serve => Request::Serve,
         BareWord::Take => Request::Take,
+        BareWord::Changes => Request::Tell,
     }
 }
 

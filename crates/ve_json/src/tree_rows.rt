@@ -1,4 +1,4 @@
-// References, the cells of a grid, and the words of a tree.
+// References, patches, the cells of a grid, and the words of a tree.
 ghost use Rattle.std.specs.Prelude.{◌≡◌, ◌++◌, flat_map, OnOk};
 ghost use Rattle.serde_json.specs.Data.{boolean};
 ghost use Rattle.serde_json.specs.Written.{compact_text};
@@ -11,6 +11,7 @@ use crate::shown::push_key;
 use crate::spelling::Spelling;
 use model_edit::GridCell;
 use model_page::RefRow;
+use model_site::Patch;
 use model_world::{TreeWord, kind_name};
 use std::alloc::Global;
 use ve_base::Memory;
@@ -54,6 +55,16 @@ impl Json for RefRow {
         out.push_byte(b',')?;
         push_place(alloc, self.body_at, out)?;
         out.push_byte(b']')
+    }
+}
+
+/// `[position, removed, inserted]`
+impl Json for Patch {
+    ghost shown = { shown.patch_shown };
+
+    fn push_json(&self, alloc: Global, out: &mut Spelling) -> Result<(), Memory> {
+        let numbers = [self.at, self.removed, self.inserted];
+        push_list(alloc, &numbers, out)
     }
 }
 

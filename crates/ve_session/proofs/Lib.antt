@@ -2,6 +2,7 @@ pub mod TurnLemmas
 pub mod DraftLemmas
 pub mod StopLemmas
 pub mod QueueLemmas
+pub mod PatchLemmas
 pub mod CaretLemmas
 pub mod BatchLemmas
 pub mod TypedLemmas

@@ -186,6 +186,7 @@ module _ (o : FirstRead) (old : Shared) (k : ℕ) (within : k < sites old) (is :
     caret_stands request.Send asked = tt
     caret_stands request.Serve asked = tt
     caret_stands request.Take asked = tt
+    caret_stands request.Tell asked = tt
     caret_stands (request.ShowItems from to) asked = tt
     caret_stands (request.At at) asked = tt
     caret_stands (request.Near at dir) asked = tt

@@ -15,7 +15,8 @@
 //! - `Cost`: how many steps a line takes at most, and the `meaning` of a world as a machine;
 //! - `Stopped`: how a refusal of the crates below is told;
 //! - `Laws`: `html` of a list that is as it was opened gives the page back
-//!   ([`unedited_page_is_told`]); so it is answered without a walk. And a world answers a script as
+//!   ([`unedited_page_is_told`]); so it is answered without a walk. What `changes` answers leads from
+//!   the list that was told last to the list ([`changes_lead_on`]). And a world answers a script as
 //!   the plain machine of the definitions does ([`world_answers_as_defined`]);
 //! - `Program`: a run of a new world, in the words of the definitions ([`run_program`]).
 //!
@@ -36,11 +37,12 @@ mod program;
 mod queues;
 mod selections;
 mod shown;
+mod told;
 mod turn;
 mod typing;
 mod world;
 
-pub use laws::{unedited_page_is_told, world_answers_as_defined};
+pub use laws::{changes_lead_on, unedited_page_is_told, world_answers_as_defined};
 pub use program::run_program;
 pub use ve_json::{Answer, Refusal};
 pub use ve_run::{Machine, Status, run};

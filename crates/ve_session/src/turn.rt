@@ -11,6 +11,7 @@ use crate::edits::{edit, erase, move_part};
 use crate::history::{redo, revoke, undo};
 use crate::queues::{send, serve, take};
 use crate::selections::{move_caret, select};
+use crate::told::tell;
 use crate::typing::type_at;
 use std::alloc::Global;
 use std::sync::ledger::Ledger;
@@ -52,6 +53,7 @@ fn done<L: Ledger>(
         Request::Send => send(session, k),
         Request::Serve => serve(session, k),
         Request::Take => take(session, k, steps),
+        Request::Tell => tell(session, k),
         _ => move_part(alloc, session, k, request, steps),
     }
 }

@@ -1,12 +1,10 @@
 -- The inverse as one pass over the operations makes it.
-use Rattle.std.specs.Prelude.{◌≡◌, ℕ, List, [], ◌∷◌, ◌++◌, take, drop}
+use Rattle.std.specs.Prelude.{◌≡◌, List, [], ◌∷◌, ◌++◌, map, reverse}
 use Rattle.model_change.specs.Attributes.{change_back}
 use Rattle.ve_tx.specs.declared.op.Op.{Op}
 use Rattle.ve_tx.specs.declared.op.Op.TheVariants as op
-use Rattle.ve_tx.specs.Operation.{Operation, Retain, Replace, Attribute}
-
-abbrev pub inserted_at : ℕ → Operation → List Operation → List Operation
-inserted_at at o ops = take at ops ++ o ∷ drop at ops
+use Rattle.ve_tx.specs.declared.inverse.Undone.{Undone}
+use Rattle.ve_tx.specs.Operation.{Operation, Retain, Replace, Attribute, with_position}
 
 -- the inverse of an operation
 abbrev pub op_back : Op → Op
@@ -25,12 +23,16 @@ turned_after changes (Attribute change ∷ ops) = turned_after (Attribute (chang
 abbrev pub turned : List Operation → List Operation
 turned = turned_after []
 
--- the operations so far, in which the attribute operations of the present position begin at
--- `start`, with the inverse of the rest
-abbrev pub finished : List Operation → ℕ → List Operation → List Operation
-finished back start rest = take start back ++ turned_after (drop start back) rest
+-- what undoes the attribute operations of a position, in their order
+abbrev pub run_of : List Undone → List Operation
+run_of run = map (λ undone. with_position undone.op undone.kept) run
 
--- The new list undoes one operation more than the old one: whatever follows, finished with it the
--- new list is the old one finished with the operation and what follows.
-abbrev pub UndoesAlso : (old : List Operation) → ℕ → Operation → (new : List Operation) → ℕ → Type 0
-UndoesAlso old start operation new next = (rest : List Operation) → finished new next rest ≡ finished old start (operation ∷ rest)
+-- the operations so far, and after them those of the present position in reverse order, with the
+-- inverse of the rest
+abbrev pub finished : List Operation → List Operation → List Operation → List Operation
+finished back run rest = back ++ turned_after (reverse run) rest
+
+-- The new operations and the new run undo one operation more than the old ones: whatever follows,
+-- finished with it they are the old ones finished with the operation and what follows.
+abbrev pub UndoesAlso : (old run : List Operation) → Operation → (new next : List Operation) → Type 0
+UndoesAlso old run operation new next = (rest : List Operation) → finished new next rest ≡ finished old run (operation ∷ rest)

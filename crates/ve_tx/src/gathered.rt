@@ -1,9 +1,8 @@
 // Operations as they are put together.
-ghost use Rattle.std.specs.Prelude.{◌≡◌, ◌≤◌, ◌++◌, ◌∷◌, [], None, IfOk, OnOk, vec_len};
+ghost use Rattle.std.specs.Prelude.{◌≡◌, ◌++◌, ◌∷◌, [], None, OnOk, vec_len};
 ghost use Rattle.ve_tx.specs.Ends.{retain_of};
 ghost use Rattle.ve_tx.specs.Gathered.{gathered};
 ghost use Rattle.ve_tx.specs.Operation.{with_position};
-ghost use Rattle.ve_tx.specs.Turned.{inserted_at};
 
 use crate::Op;
 use std::alloc::Global;
@@ -26,20 +25,6 @@ impl Gathered {
             ops: Vec::new(alloc),
             kept: Vec::new(alloc),
         }
-    }
-
-    /// Puts an operation in at a position.
-    pub fn insert(&mut self, at: usize, op: Op, kept: Option<usize>) -> Result<(), Memory>
-        requires even { vec_len self.old.ops ≡ vec_len self.old.kept }
-        requires within { at ≤ vec_len self.old.ops }
-        ensures even { OnOk result (vec_len self.new.ops ≡ vec_len self.new.kept) }
-        ensures within { OnOk result (at ≤ vec_len self.new.ops) }
-        ensures ok { OnOk result (
-            gathered self.new ≡ inserted_at at (with_position op kept) (gathered self.old)) }
-    {
-        self.ops.insert(at, op)?;
-        self.kept.insert(at, kept)?;
-        Ok(())
     }
 
     /// Puts an operation after the others.
@@ -65,18 +50,5 @@ impl Gathered {
             self.push(Op::Retain(count), None)?;
         }
         Ok(())
-    }
-
-    /// Puts an operation that keeps no position after the others. The result is how many there are
-    /// then.
-    pub fn append(&mut self, op: Op) -> Result<usize, Memory>
-        requires even { vec_len self.old.ops ≡ vec_len self.old.kept }
-        ensures even { OnOk result (vec_len self.new.ops ≡ vec_len self.new.kept) }
-        ensures len { IfOk result (λ len. len ≡ vec_len self.new.ops) }
-        ensures ok { OnOk result (
-            gathered self.new ≡ gathered self.old ++ with_position op None ∷ []) }
-    {
-        self.push(op, None)?;
-        Ok(self.ops.len())
     }
 }

@@ -1,13 +1,20 @@
 // The inverse of operations.
-ghost use Rattle.std.specs.Prelude.{◌≡◌, ◌≤◌, None, IfOk, OnOk, vec_len, slice_index_or};
+ghost use Rattle.std.specs.Prelude.{◌≡◌, ◌++◌, ◌∷◌, [], reverse, None, IfOk, OnOk, vec_len, slice_index_or};
 ghost use Rattle.ve_tx.specs.Gathered.{gathered};
 ghost use Rattle.ve_tx.specs.Operation.{with_position, with_positions};
-ghost use Rattle.ve_tx.specs.Turned.{op_back, turned, UndoesAlso};
+ghost use Rattle.ve_tx.specs.Turned.{op_back, run_of, turned, UndoesAlso};
 
 use crate::Op;
 use crate::gathered::Gathered;
 use std::alloc::Global;
 use ve_base::{Memory, TryCopy};
+
+/// What undoes an attribute operation, with the position that it keeps.
+#[derive(Drop)]
+struct Undone {
+    op: Op,
+    kept: Option<usize>,
+}
 
 fn undoing(alloc: Global, op: &Op) -> Result<Op, Memory>
     ensures { IfOk result (λ back. back ≡ op_back op.now) }
@@ -33,32 +40,56 @@ pub fn position_at(kept: &[Option<usize>], i: usize) -> Option<usize>
     if i < kept.len() { kept[i] } else { None }
 }
 
-/// Puts in the inverse of the next operation. It goes after the others or, of an attribute
-/// operation, before those that undo the earlier ones of its position, which begin at `start`. The
-/// result is where they begin then.
+/// Puts what undoes the attribute operations of a position after the others, from the last to the
+/// first.
+fn append_backwards(back: &mut Gathered, run: &mut Vec<Undone>) -> Result<(), Memory>
+    requires even { vec_len back.old.ops ≡ vec_len back.old.kept }
+    ensures even { OnOk result (vec_len back.new.ops ≡ vec_len back.new.kept) }
+    ensures run { OnOk result (run.new.items ≡ []) }
+    ensures ok { OnOk result (
+        gathered back.new ≡ gathered back.old ++ reverse (run_of run.old.items)) }
+{
+    while let Some(Undone { op, kept }) = run.pop() {
+        back.push(op, kept)?;
+    }
+    Ok(())
+}
+
+/// Puts an operation after the others and after those of the position before it.
+fn append(back: &mut Gathered, run: &mut Vec<Undone>, op: Op) -> Result<(), Memory>
+    requires even { vec_len back.old.ops ≡ vec_len back.old.kept }
+    ensures even { OnOk result (vec_len back.new.ops ≡ vec_len back.new.kept) }
+    ensures run { OnOk result (run.new.items ≡ []) }
+    ensures ok { OnOk result (
+        gathered back.new
+        ≡ (gathered back.old ++ reverse (run_of run.old.items)) ++ with_position op None ∷ []) }
+{
+    append_backwards(back, run)?;
+    back.push(op, None)
+}
+
+/// Puts in the inverse of the next operation. That of an attribute operation waits in a run, until
+/// all those of its position are known.
 fn put_back(
     alloc: Global,
     back: &mut Gathered,
-    start: usize,
+    run: &mut Vec<Undone>,
     op: &Op,
     kept: Option<usize>,
-) -> Result<usize, Memory>
+) -> Result<(), Memory>
     requires even { vec_len back.old.ops ≡ vec_len back.old.kept }
-    requires within { start ≤ vec_len back.old.ops }
     ensures even { OnOk result (vec_len back.new.ops ≡ vec_len back.new.kept) }
-    ensures within { IfOk result (λ next. next ≤ vec_len back.new.ops) }
-    ensures ok { IfOk result (λ next.
-        UndoesAlso (gathered back.old) start (with_position op.now kept) (gathered back.new)
-        next) }
+    ensures ok { OnOk result (
+        UndoesAlso (gathered back.old) (run_of run.old.items) (with_position op.now kept)
+        (gathered back.new) (run_of run.new.items)) }
 {
     let undone = undoing(alloc, op)?;
     match op {
         Op::Attribute { .. } => {
-            back.insert(start, undone, kept)?;
-            Ok(start)
+            run.push(Undone { op: undone, kept })?;
+            Ok(())
         }
-        Op::Retain(_) => back.append(undone),
-        Op::Replace { .. } => back.append(undone),
+        Op::Retain(_) | Op::Replace { .. } => append(back, run, undone),
     }
 }
 
@@ -71,9 +102,10 @@ pub fn inverted(alloc: Global, ops: &[Op], kept: &[Option<usize>]) -> Result<Gat
         ≡ turned (with_positions ops.now kept.now)) }
 {
     let mut back = Gathered::new(alloc);
-    let mut start = 0;
+    let mut run = Vec::new(alloc);
     for i in 0..ops.len() {
-        start = put_back(alloc, &mut back, start, &ops[i], position_at(kept, i))?;
+        put_back(alloc, &mut back, &mut run, &ops[i], position_at(kept, i))?;
     }
+    append_backwards(&mut back, &mut run)?;
     Ok(back)
 }
