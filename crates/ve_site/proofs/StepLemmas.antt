@@ -1,7 +1,11 @@
 -- The meaning of a site's fields after each step, and that they are a site's again.
-use Rattle.std.proofs.Common.{◌≡◌, ℕ, true, false, List, [], ◌∷◌, ◌++◌, length, map, All, Option, None, Result, Ok, Err, is_err, OnOk, sym, ap, ◌∙◌, subst, arith}
-use Rattle.std.proofs.lemmas.List.{map-append, append_assoc}
+use Rattle.std.proofs.Common.{◌≡◌, ℕ, true, false, List, [], ◌∷◌, ◌++◌, length, map, All, Option, None, Result, Ok, Err, is_err, OnOk, refl, sym, ap, ◌∙◌, subst, arith}
+use Rattle.std.proofs.lemmas.List.{append_assoc, length-map, map-append}
 use Rattle.std.proofs.lemmas.List.Elements.{All-nil}
+use Rattle.ve_base.specs.declared.value.Value.{Value}
+use Rattle.model_items.specs.declared.item.Item.{Item}
+use Rattle.model_items.specs.declared.plain_item.PlainItem.{PlainItem}
+use Rattle.model_items.specs.Plain.{plain, plain_list}
 use Rattle.model_change.specs.Transaction.{Transaction, InsertedApart, is_reduced}
 use Rattle.model_edit.specs.declared.selection.Selection.{Selection}
 use Rattle.model_site.specs.Entries.{entry_of}
@@ -104,16 +108,26 @@ module _ (editor : Replica) (untold : Untold) (seen : ℕ) (sent : List Entry) (
 
 -- ---- a site as it begins, and another selection
 
+-- its list by value is as long
+pub list_count : (store : List Value) (items : List Item) (page : List PlainItem) → plain_list store items ≡ page → length items ≡ length page
+list_count store items page same = sym (length-map items (plain store)) ∙ ap length same
+
+pub begun_same : (editor : Replica) (untold : Untold) (sent : List Entry) (h : Stacks) → untold ≡ all_untold (length editor.items) → sent ≡ [] → h.done ≡ [] → h.undone ≡ [] →
+    site_of editor untold 0 sent h 0 None ≡ starting editor
+begun_same editor untold sent h n e d u =
+    let begun = site_of editor (all_untold (length editor.items)) 0 sent h 0 None in
+    ap (λ x. site_of editor x 0 sent h 0 None) n
+    ∙ (ap (λ es. record begun { sent = map (entry_by_value editor.store) es }) e
+    ∙ (ap (λ es. record begun { sent = []; unsent = map (entry_by_value editor.store) es }) d
+    ∙ ap (λ ps. record (starting editor) { undone = map parcel_by_value ps }) u))
+
 pub begun_is : (editor : Replica) (sent : List Entry) (h : Stacks) → sent ≡ [] → h.done ≡ [] → h.undone ≡ [] → Opens editor → StandsIn editor.items editor.selection →
     IsSite editor 0 sent h 0 None
 begun_is editor sent h e d u opens selection =
-    let begun = site_of editor (all_untold (length editor.items)) 0 sent h 0 None in
-    let same : begun ≡ starting editor =
-    ap (λ es. record begun { sent = map (entry_by_value editor.store) es }) e
-    ∙ (ap (λ es. record begun { sent = []; unsent = map (entry_by_value editor.store) es }) d
-    ∙ ap (λ ps. record (starting editor) { undone = map parcel_by_value ps }) u) in
+    let first = all_untold (length editor.items) in
+    let same = begun_same editor first sent h refl e d u in
     record {
-      stands = untold_stands begun (subst Stands (sym same) (starts editor opens selection));
+      stands = untold_stands (site_of editor first 0 sent h 0 None) (subst Stands (sym same) (starts editor opens selection));
       over = subst (AreOver editor.store 0) (sym (ap (λ es. es ++ h.done) e ∙ d)) (omega arith);
       undone_cite = subst (All ParcelCites) (sym u) (All-nil ParcelCites);
     }
