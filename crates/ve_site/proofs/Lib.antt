@@ -17,3 +17,4 @@ mod TouchLemmas
 mod StepBoundLemmas
 mod SiteExamples
 pub mod SettleLemmas
+mod PatchExamples

@@ -1,7 +1,8 @@
 -- The last undone entry performed again.
-use Rattle.std.proofs.Common.{◌≡◌, ◌≤◌, ◌+◌, ℕ, List, [], ◌∷◌, ◌++◌, map, drop, slice_get, All, Option, Some, Ok, sym, ap, ◌∙◌, subst}
+use Rattle.std.proofs.Common.{◌≡◌, ◌≤◌, ◌+◌, ℕ, List, [], ◌∷◌, ◌++◌, map, drop, slice_get, All, Option, Some, None, Ok, Err, refl, sym, ap, ◌∙◌, subst}
 use Rattle.std.proofs.lemmas.List.Elements.{All-head, All-tail}
 use Rattle.model_change.specs.Replay.{AllRun, flattened}
+use Rattle.model_site.specs.Causes.{NothingToRedo}
 use Rattle.model_site.specs.Entries.{entry_of}
 use Rattle.model_site.specs.Replica.{Replica, all_performed}
 use Rattle.model_site.specs.Site.{Site, redo, redo_first}
@@ -61,3 +62,12 @@ module _ (editor : Replica) (untold : Untold) (seen : ℕ) (sent : List Entry) (
         pushed_is editor untold seen sent old shared flight is (parcel_by_value first) new e now later page entry cites done noted
         (redone_stands site (site_of new later seen sent now shared flight) (is.stands untold) redo_is)
         (subst (All ParcelCites) (sym undone) (All-tail ParcelCites first rest cited))
+
+-- ---- nothing to perform again
+
+none_first : {A : Type 0} (xs : List A) → slice_get xs 0 ≡ None → xs ≡ []
+none_first [] e = refl
+none_first (x ∷ xs) e = cc
+
+pub nothing_redone : (s : Site) (old : List Parcel) → s.undone ≡ map parcel_by_value old → slice_get old 0 ≡ None → redo s ≡ Err NothingToRedo
+nothing_redone s old u e = ap (λ ps. redo_first ps s) (u ∙ ap (map parcel_by_value) (none_first old e))

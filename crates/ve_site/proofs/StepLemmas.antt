@@ -1,5 +1,5 @@
 -- The meaning of a site's fields after each step, and that they are a site's again.
-use Rattle.std.proofs.Common.{◌≡◌, ℕ, true, false, List, [], ◌∷◌, ◌++◌, length, map, All, Option, None, Result, Ok, Err, is_err, OnOk, refl, sym, ap, ◌∙◌, subst, arith}
+use Rattle.std.proofs.Common.{◌≡◌, ℕ, true, false, List, [], ◌∷◌, ◌++◌, length, map, All, Option, None, Result, Ok, Err, is_err, OnOk, OnErr, refl, sym, ap, ◌∙◌, subst, arith}
 use Rattle.std.proofs.lemmas.List.{append_assoc, length-map, map-append}
 use Rattle.std.proofs.lemmas.List.Elements.{All-nil}
 use Rattle.ve_base.specs.declared.value.Value.{Value}
@@ -138,8 +138,12 @@ selected_is editor new seen sent h shared flight selection is p e =
     subst (λ r. IsSite r seen sent h shared flight) (sym e)
     (record { stands = λ untold. selected_stands (site_of editor untold seen sent h shared flight) selection (is.stands untold) p; over = is.over; undone_cite = is.undone_cite })
 
--- ---- calls that succeed
+-- ---- calls that succeed, and that fail
 
 pub not_err : {A E : Type 0} (P : Type 0) (r : Result A E) → is_err r ≡ false → OnOk r P → P
 not_err P (Ok x) e h = h
 not_err P (Err x) e h = cc
+
+pub is_err_then : {A E : Type 0} (P : Type 0) (r : Result A E) → is_err r ≡ true → OnErr r P → P
+is_err_then P (Ok x) e h = cc
+is_err_then P (Err x) e h = h

@@ -8,7 +8,7 @@ use Rattle.ve_tx.specs.ByValue.{parcel_by_value}
 use Rattle.ve_tx.proofs.ChangeLemmas.{ok-holds}
 use Rattle.ve_editor.specs.Counted.{steps_over}
 use Rattle.ve_editor.specs.Edited.{AllStand}
-use Rattle.ve_site.specs.Numbered.{Numbered, with_site}
+use Rattle.ve_site.specs.Numbered.{Numbered, with_site, IsSite}
 use Rattle.ve_site.proofs.StandsLemmas.{all_stand}
 use Rattle.ve_site.proofs.StepLemmas.{roomy_same, roomy_is, with_entry_same, with_entry_is}
 use Rattle.ve_site.proofs.site.Site.adopt.Goals as goal
@@ -61,3 +61,10 @@ returns-in_err-entry-clause-steps g c =
 pub returns-clause-steps : goal.returns-clause-steps
 returns-clause-steps g c =
     subst (λ (x : Site). c.admit.new.steps ≤ c.args.steps.now + steps_over (parcel_by_value c.args.back.now) x.replica.items) (ap (λ (v : Numbered). v.site) c.self.view_is) c.admit.ensures.steps
+
+pub invariant_of-self-in_err-entry : goal.invariant_of-self-in_err-entry
+invariant_of-self-in_err-entry g c =
+    let s = c.self.inside in
+    let room = c.reserve.new.self in
+    subst (λ r. IsSite r s.seen s.sent.items room s.shared s.in_flight) (sym c.in_err-entry.ensures.kept)
+    (roomy_is s.editor s.untold s.seen s.sent.items s.history s.shared s.in_flight c.self.invariant room c.reserve.ensures.done c.reserve.ensures.undone)

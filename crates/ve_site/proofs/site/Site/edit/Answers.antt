@@ -8,7 +8,7 @@ use Rattle.model_site.specs.Site.{Site, edit}
 use Rattle.ve_tx.proofs.ChangeLemmas.{normal-reduced, ok-holds}
 use Rattle.ve_editor.specs.Edited.{drafted, drafted_values}
 use Rattle.ve_editor.specs.Refusal.{IsEditRefusal}
-use Rattle.ve_site.specs.Numbered.{Numbered}
+use Rattle.ve_site.specs.Numbered.{Numbered, IsSite}
 use Rattle.ve_site.proofs.StepLemmas.{roomy_same, roomy_is, edit_is, edited_is}
 use Rattle.ve_editor.specs.Counted.{steps_after}
 use Rattle.ve_site.proofs.site.Site.edit.Goals as goal
@@ -69,3 +69,10 @@ pub returns-clause-steps : goal.returns-clause-steps
 returns-clause-steps g c =
     subst (λ (x : Site). c.perform.new.steps ≤ c.args.steps.now + steps_after (drafted x.replica.store c.args.draft.now ∷ []) x.replica.items) (ap (λ (v : Numbered). v.site) c.self.view_is)
     (one_more c.args.steps.now c.perform.new.steps _ c.perform.ensures.steps)
+
+pub invariant_of-self-in_err-entry : goal.invariant_of-self-in_err-entry
+invariant_of-self-in_err-entry g c =
+    let s = c.self.inside in
+    let room = c.reserve.new.self in
+    subst (λ r. IsSite r s.seen s.sent.items room s.shared s.in_flight) (sym c.in_err-entry.ensures.kept)
+    (roomy_is s.editor s.untold s.seen s.sent.items s.history s.shared s.in_flight c.self.invariant room c.reserve.ensures.done c.reserve.ensures.undone)

@@ -1,13 +1,16 @@
-use Rattle.std.proofs.Common.{◌≡◌, ◌≤◌, ◌+◌, [], ◌∷◌, ◌++◌, true, is_ok, drop, sym, ap, ◌∙◌, subst, List, map}
+use Rattle.std.proofs.Common.{◌≡◌, ◌≤◌, ◌+◌, [], ◌∷◌, ◌++◌, true, is_ok, drop, sym, ap, ◌∙◌, subst, List, map, slice_get, None, refl}
+use Rattle.ve_tx.specs.declared.parcel.Parcel.{Parcel}
+use Rattle.ve_site.specs.Refusal.{IsRedoRefusal}
 use Rattle.model_site.specs.Untold.{passed}
 use Rattle.ve_tx.specs.Operation.{Operation, by_value}
 use Rattle.ve_tx.proofs.ChangeLemmas.{ok-holds}
-use Rattle.ve_site.specs.Numbered.{Numbered}
+use Rattle.ve_site.specs.Numbered.{Numbered, IsSite, site_of}
 use Rattle.ve_site.proofs.StepLemmas.{roomy_same, roomy_is}
-use Rattle.ve_site.proofs.RedoLemmas.{may_come, redo_counts, redo_is, redone_is}
+use Rattle.ve_site.proofs.RedoLemmas.{may_come, redo_counts, redo_is, redone_is, first_cites, nothing_redone}
 use Rattle.model_site.specs.Site.{Site, redo}
 use Rattle.ve_editor.specs.Counted.{steps_over}
 use Rattle.ve_site.specs.Counted.{redoing}
+use Rattle.model_site.specs.declared.site_fault.RedoFault.TheVariants as fault
 use Rattle.ve_site.proofs.site.Site.redo.Goals as goal
 
 pub admit-requires-clause-stands : goal.admit-requires-clause-stands
@@ -66,3 +69,30 @@ returns-clause-steps g c =
     let same = roomy_same s.editor s.untold s.seen s.sent.items s.history s.shared s.in_flight c.self.invariant room c.reserve.ensures.done c.reserve.ensures.undone in
     subst (λ (x : Site). c.admit.new.steps ≤ c.args.steps.now + steps_over (redoing x.undone) x.replica.items) (same ∙ ap (λ (v : Numbered). v.site) c.self.view_is)
     (redo_counts s.editor s.untold s.seen s.sent.items room s.shared s.in_flight is c.in-Some.undone.now (sym c.in-Some.ensures) c.args.steps.now c.admit.new.steps c.admit.ensures.steps)
+
+pub invariant_of-self-in_default : goal.invariant_of-self-in_default
+invariant_of-self-in_default g c =
+    let s = c.self.inside in
+    let room = c.reserve.new.self in
+    roomy_is s.editor s.untold s.seen s.sent.items s.history s.shared s.in_flight c.self.invariant room c.reserve.ensures.done c.reserve.ensures.undone
+
+pub invariant_of-self-in_default-admit : goal.invariant_of-self-in_default-admit
+invariant_of-self-in_default-admit g c =
+    let s = c.self.inside in
+    let room = c.reserve.new.self in
+    subst (λ r. IsSite r s.seen s.sent.items room s.shared s.in_flight) (sym c.in_default-admit.ensures.kept)
+    (roomy_is s.editor s.untold s.seen s.sent.items s.history s.shared s.in_flight c.self.invariant room c.reserve.ensures.done c.reserve.ensures.undone)
+
+pub returns-in_default-clause-refused : goal.returns-in_default-clause-refused
+returns-in_default-clause-refused g c =
+    let s = c.self.inside in
+    let none = subst (λ (ps : List Parcel). slice_get ps 0 ≡ None) c.reserve.ensures.undone (sym c.in_default.ensures) in
+    subst (λ (x : Site). IsRedoRefusal (redo x) fault.NothingToRedo) (ap (λ (v : Numbered). v.site) c.self.view_is)
+    (nothing_redone (site_of s.editor s.untold s.seen s.sent.items s.history s.shared s.in_flight) s.history.undone refl none)
+
+pub admit-requires-clause-cites : goal.admit-requires-clause-cites
+admit-requires-clause-cites g c =
+    let s = c.self.inside in
+    let room = c.reserve.new.self in
+    let is = roomy_is s.editor s.untold s.seen s.sent.items s.history s.shared s.in_flight c.self.invariant room c.reserve.ensures.done c.reserve.ensures.undone in
+    first_cites s.editor s.untold s.seen s.sent.items room s.shared s.in_flight is c.in-Some.undone.now (sym c.in-Some.ensures)

@@ -8,6 +8,6 @@ use Rattle.ve_site.proofs.site.Site.tell.Goals as goal
 pub returns : goal.returns
 returns c =
     let s = c.self.inside in
-    let count = c.len.ensures ∙ list_count s.editor.store c.doc.result.list.now.items s.editor.items c.doc.ensures.items in
+    let count = c.len-count.ensures ∙ list_count s.editor.store c.doc.result.list.now.items s.editor.items c.doc.ensures.items in
     ap (λ (u : Untold). record { number = s.number; site = site_of s.editor u s.seen s.sent.items s.history s.shared s.in_flight }) (c.clear.ensures ∙ ap none_untold count)
     ∙ ap (λ (v : Numbered). with_site (with_told v.site) v) c.self.view_is

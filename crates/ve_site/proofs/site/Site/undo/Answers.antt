@@ -9,9 +9,9 @@ use Rattle.ve_tx.specs.Operation.{by_value, Operation}
 use Rattle.ve_tx.proofs.ChangeLemmas.{ok-holds}
 use Rattle.ve_editor.specs.Edited.{entry_by_value}
 use Rattle.ve_history.specs.Stacks.{without_last}
-use Rattle.ve_site.specs.Numbered.{Numbered, site_of}
+use Rattle.ve_site.specs.Numbered.{Numbered, site_of, IsSite}
 use Rattle.ve_site.specs.Refusal.{IsUndoRefusal}
-use Rattle.ve_site.proofs.StepLemmas.{roomy_same, roomy_is, not_err}
+use Rattle.ve_site.proofs.StepLemmas.{roomy_same, roomy_is, not_err, is_err_then}
 use Rattle.ve_site.proofs.UndoLemmas.{last_cites, undo_counts, may_go, cuts_uncited, undo_is, undone_is, nothing_undone}
 use Rattle.ve_editor.specs.Counted.{steps_over}
 use Rattle.ve_site.specs.Counted.{undoing}
@@ -106,3 +106,22 @@ returns-clause-steps g c =
     let same = roomy_same s.editor s.untold s.seen s.sent.items s.history s.shared s.in_flight c.self.invariant room c.reserve.ensures.done c.reserve.ensures.undone in
     subst (λ (x : Site). c.revert.new.steps ≤ c.args.steps.now + steps_over (undoing x.unsent) x.replica.items) (same ∙ ap (λ (v : Numbered). v.site) c.self.view_is)
     (undo_counts s.editor s.untold s.seen s.sent.items room s.shared s.in_flight is c.in-Some.last.now (sym c.in-Some.ensures) c.args.steps.now c.revert.new.steps c.revert.ensures.steps)
+
+pub invariant_of-self-in_default : goal.invariant_of-self-in_default
+invariant_of-self-in_default g c =
+    let s = c.self.inside in
+    let room = c.reserve.new.self in
+    roomy_is s.editor s.untold s.seen s.sent.items s.history s.shared s.in_flight c.self.invariant room c.reserve.ensures.done c.reserve.ensures.undone
+
+pub invariant_of-self-in_default-of : goal.invariant_of-self-in_default-of
+invariant_of-self-in_default-of g c =
+    let s = c.self.inside in
+    let room = c.reserve.new.self in
+    roomy_is s.editor s.untold s.seen s.sent.items s.history s.shared s.in_flight c.self.invariant room c.reserve.ensures.done c.reserve.ensures.undone
+
+pub invariant_of-self-then-is_err-2 : goal.invariant_of-self-then-is_err-2
+invariant_of-self-then-is_err-2 g c =
+    let s = c.self.inside in
+    let room = c.reserve.new.self in
+    subst (λ r. IsSite r s.seen s.sent.items room s.shared s.in_flight) (sym (is_err_then (c.revert.new.self ≡ s.editor) c.revert.result (sym c.if-is_err-2.ensures.value) c.revert.ensures.kept))
+    (roomy_is s.editor s.untold s.seen s.sent.items s.history s.shared s.in_flight c.self.invariant room c.reserve.ensures.done c.reserve.ensures.undone)

@@ -31,7 +31,8 @@ loop-at-preserved c =
     record {
       noted = λ values. entry_undone values e (drop k es) (drop (k + 1) es) old c.loop-at.self now (next_is k es e below c.index-entries-at.is)
           (c.loop-at.invariant.noted values ∙ ap (λ n. passed (back_over values (drop n es)) old) next)
-          (c.note_back.ensures values ∙ ap (λ (txs : List (List Operation)). passed (reversal (map (by_value values) txs)) c.loop-at.self) c.as_slice.ensures);
+          (c.note_back.ensures values ∙ ap (λ (txs : List (List Operation)). passed (reversal (map (by_value values) txs)) c.loop-at.self)
+          (c.as_slice.ensures ∙ ap (λ (x : Entry). x.txs) (sym c.index-entries-at.is)));
       within = omega (arith, c.loop-at.invariant.within);
     }
 
