@@ -51,7 +51,7 @@ invariant_of-self-2 g c =
     let run = subst (λ (x : Site). AllRun (parcel_by_value c.args.foreign.now) (ground_of x)) (ap (λ (v : Numbered). v.site) (sym c.self.view_is)) c.requires.run in
     let committed = c.in_ok-committed.field-0.committed in
     let noted : c.note.new.self ≡ passed (parcel_by_value committed) c.note_dropped.new.untold =
-    c.note.ensures committed.values ∙ ap (λ (txs : List (List Operation)). passed (map (by_value committed.values) txs) c.note_dropped.new.untold) c.as_slice-2.ensures in
+    c.note.ensures committed.values ∙ ap (λ (txs : List (List Operation)). passed (map (by_value committed.values) txs) c.note_dropped.new.untold) c.as_slice.ensures in
     let stored = c.in_ok-stored.stored in
     let first = c.renumbered.ensures ∙ ap (map (numbered_alike stored)) c.in_ok-sent.ensures.first in
     let done = c.clear_undone.ensures.done ∙ (c.replace_done-gone.ensures.done ∙ (c.from_vec-done.ensures ∙ (c.renumbered-2.ensures ∙ ap (map (numbered_alike stored)) c.in_ok-sent.ensures.second))) in
@@ -66,7 +66,7 @@ returns-clause-site g c =
     let run = subst (λ (x : Site). AllRun (parcel_by_value c.args.foreign.now) (ground_of x)) (ap (λ (v : Numbered). v.site) (sym c.self.view_is)) c.requires.run in
     let committed = c.in_ok-committed.field-0.committed in
     let noted : c.note.new.self ≡ passed (parcel_by_value committed) c.note_dropped.new.untold =
-    c.note.ensures committed.values ∙ ap (λ (txs : List (List Operation)). passed (map (by_value committed.values) txs) c.note_dropped.new.untold) c.as_slice-2.ensures in
+    c.note.ensures committed.values ∙ ap (λ (txs : List (List Operation)). passed (map (by_value committed.values) txs) c.note_dropped.new.untold) c.as_slice.ensures in
     let stored = c.in_ok-stored.stored in
     let first = c.renumbered.ensures ∙ ap (map (numbered_alike stored)) c.in_ok-sent.ensures.first in
     let done = c.clear_undone.ensures.done ∙ (c.replace_done-gone.ensures.done ∙ (c.from_vec-done.ensures ∙ (c.renumbered-2.ensures ∙ ap (map (numbered_alike stored)) c.in_ok-sent.ensures.second))) in
@@ -83,7 +83,7 @@ returns-clause-left g c =
     let run = subst (λ (x : Site). AllRun (parcel_by_value c.args.foreign.now) (ground_of x)) (ap (λ (v : Numbered). v.site) (sym c.self.view_is)) c.requires.run in
     let committed = c.in_ok-committed.field-0.committed in
     let noted : c.note.new.self ≡ passed (parcel_by_value committed) c.note_dropped.new.untold =
-    c.note.ensures committed.values ∙ ap (λ (txs : List (List Operation)). passed (map (by_value committed.values) txs) c.note_dropped.new.untold) c.as_slice-2.ensures in
+    c.note.ensures committed.values ∙ ap (λ (txs : List (List Operation)). passed (map (by_value committed.values) txs) c.note_dropped.new.untold) c.as_slice.ensures in
     let stored = c.in_ok-stored.stored in
     let first = c.renumbered.ensures ∙ ap (map (numbered_alike stored)) c.in_ok-sent.ensures.first in
     let done = c.clear_undone.ensures.done ∙ (c.replace_done-gone.ensures.done ∙ (c.from_vec-done.ensures ∙ (c.renumbered-2.ensures ∙ ap (map (numbered_alike stored)) c.in_ok-sent.ensures.second))) in
@@ -107,3 +107,10 @@ returns-in_err-stored-clause-steps g c =
     subst (λ (v : Numbered). c.admit_under.new.steps ≤ c.args.steps.now + steps_to_take (parcel_by_value c.args.foreign.now) v.site) c.self.view_is
     (lent_counts s.editor s.untold s.seen s.sent.items s.history s.shared s.in_flight c.self.invariant c.args.foreign.now run c.as_slice-own_sent.result.now c.done-own_unsent.result.now
     c.as_slice-own_sent.ensures.value c.done-own_unsent.ensures c.in_ok-committed.field-0 c.in_ok-committed.ensures c.as_slice-left.result.now c.as_slice-left.ensures c.args.steps.now c.admit_under.new.steps c.admit_under.ensures.steps)
+
+pub note_dropped-requires : goal.note_dropped-requires
+note_dropped-requires g c =
+    let s = c.self.inside in
+    let run = subst (λ (x : Site). AllRun (parcel_by_value c.args.foreign.now) (ground_of x)) (ap (λ (v : Numbered). v.site) (sym c.self.view_is)) c.requires.run in
+    lent_within s.editor s.untold s.seen s.sent.items s.history s.shared s.in_flight c.self.invariant c.args.foreign.now run c.as_slice-own_sent.result.now c.done-own_unsent.result.now
+    c.as_slice-own_sent.ensures.value c.done-own_unsent.ensures c.in_ok-committed.field-0 c.in_ok-committed.ensures c.as_slice-left.result.now c.as_slice-left.ensures
