@@ -7,6 +7,7 @@ use Rattle.model_change.specs.Replay.{reversal}
 use Rattle.model_site.specs.Entries.{Parcel as ModelParcel, all_reverted, reverted}
 use Rattle.model_site.specs.Entries.{Entry as ModelEntry}
 use Rattle.model_site.specs.Replica.{Replica}
+use Rattle.model_site.specs.Untold.{Untold, none_untold, passed}
 use Rattle.ve_base.specs.declared.value.Value.{Value}
 use Rattle.ve_tx.specs.declared.entry.Entry.{Entry}
 use Rattle.ve_tx.specs.declared.parcel.Parcel.{Parcel}
@@ -60,7 +61,7 @@ pub stack_is : (editor : Replica) (seen : ℕ) (sent : List Entry) (old : Stacks
 stack_is editor seen sent old shared flight is =
     let stack : Stacks = record { done = sent ++ old.done; undone = []; spare = 0 } in
     record {
-      stands = restacked_stands (site_of editor seen sent old shared flight) (site_of editor 0 [] stack 0 None) is.stands refl (map-append (entry_by_value editor.store) sent old.done) refl;
+      stands = λ untold. restacked_stands (site_of editor untold seen sent old shared flight) (site_of editor untold 0 [] stack 0 None) (is.stands untold) refl (map-append (entry_by_value editor.store) sent old.done) refl;
       over = is.over;
       undone_cite = All-nil ParcelCites;
     }
@@ -69,6 +70,10 @@ pub none_dropped : (r : Replica) (es : List Entry) → IsStack r es → AreDropp
 none_dropped r es is = record { page = refl; stack = is; base = r.store; old_extends = extends_itself r.store; now_extends = extends_itself r.store; over = is.over }
 
 -- ---- one more
+
+-- what a stack has not told is of no matter
+abbrev nothing : Untold
+nothing = none_untold 0
 
 -- over either of two stores that go on from one that it cites, an entry is the same
 pub same_over : (base one other : List Value) (e : Entry) → Extends base one → Extends base other → EntryCites base e → entry_by_value one e ≡ entry_by_value other e
@@ -81,13 +86,13 @@ module _ (old now : Replica) (left gone : List Entry) (e : Entry) (d : AreDroppe
   stack = record { done = left ++ e ∷ []; undone = []; spare = 0 }
 
   pub next_cites : EntryCites now.store e
-  next_cites = last_cites now 0 [] stack 0 None d.stack e (ends left e)
+  next_cites = last_cites now nothing 0 [] stack 0 None d.stack e (ends left e)
 
   pub next_may_go : CanBeReverted (entry_by_value now.store e) now
-  next_may_go = may_go now 0 [] stack 0 None d.stack e (ends left e)
+  next_may_go = may_go now nothing 0 [] stack 0 None d.stack e (ends left e)
 
   pub next_uncited : CutsUncited (entry_by_value now.store e) now
-  next_uncited = cuts_uncited now 0 [] stack 0 None d.stack e (ends left e)
+  next_uncited = cuts_uncited now nothing 0 [] stack 0 None d.stack e (ends left e)
 
   base_cites : EntryCites d.base e
   base_cites = All-head (EntryCites d.base) e [] (cite_parts d.base left (e ∷ []) (over_cites d.base 0 (left ++ e ∷ []) d.over)).1
@@ -102,11 +107,11 @@ module _ (old now : Replica) (left gone : List Entry) (e : Entry) (d : AreDroppe
       let next : Stacks = record { done = left; undone = parcel ∷ []; spare = 0 } in
       record {
         page = page ∙ (ap (λ x. reverted x now) same ∙ ap (reverted (entry_by_value old.store e)) d.page);
-        stack = stack_is new 0 [] next 0 None (undone_is now 0 [] stack 0 None d.stack e (ends left e) new page parcel next refl (but_last left e) refl next_cites);
+        stack = stack_is new 0 [] next 0 None (undone_is now nothing 0 [] stack 0 None d.stack e (ends left e) new page parcel next (passed (reversal (entry_by_value now.store e).txs) nothing) refl (but_last left e) refl refl next_cites);
         base = take e.store_before d.base;
         old_extends = extends_on (take e.store_before d.base) d.base old.store (prefix_extends e.store_before d.base) d.old_extends;
         now_extends = subst (λ b. Extends b new.store) (prefix_stays d.base now.store e.store_before d.now_extends last.within)
-            (left_extends now 0 [] stack 0 None d.stack e (ends left e) new page);
+            (left_extends now nothing 0 [] stack 0 None d.stack e (ends left e) new page);
         over = last.before;
       }
 

@@ -1,3 +1,5 @@
+pub mod PatchLemmas
+mod NotedLemmas
 mod OverLemmas
 mod StandsLemmas
 mod StepLemmas
@@ -15,3 +17,4 @@ mod TouchLemmas
 mod StepBoundLemmas
 mod SiteExamples
 pub mod SettleLemmas
+mod PatchExamples

@@ -6,6 +6,7 @@ use Rattle.model_site.specs.Entries.{parcels}
 use Rattle.model_site.specs.Entries.{Entry as ModelEntry, Parcel as ModelParcel}
 use Rattle.model_site.specs.Replica.{Replica}
 use Rattle.model_site.specs.Site.{Site, Submission, pending, send, send_unless}
+use Rattle.model_site.specs.Untold.{Untold}
 use Rattle.model_site_law.proofs.ReplayLemmas.{parcels-append}
 use Rattle.ve_tx.specs.declared.entry.Entry.{Entry}
 use Rattle.ve_tx.specs.ByValue.{parcel_by_value, ParcelCites}
@@ -14,16 +15,16 @@ use Rattle.ve_history.specs.Stacks.{Stacks}
 use Rattle.ve_site.specs.Ground.{AreOver, Stands}
 use Rattle.ve_site.specs.Numbered.{site_of, IsSite}
 use Rattle.ve_site.proofs.OverLemmas.{over_cites, cite_parts}
-use Rattle.ve_site.proofs.StandsLemmas.{sent_stands}
+use Rattle.ve_site.proofs.StandsLemmas.{sent_stands, untold_stands}
 
 sent_of : (s : Site) (es : List ModelEntry) → 0 < length es →
     send_unless None es s ≡ Ok (record s { sent = s.sent ++ es; unsent = []; shared = s.shared + length es; in_flight = Some (length es) }, record { base = s.seen; entries = parcels es })
 sent_of s [] some = absurd (omega arith)
 sent_of s (e ∷ es) some = refl
 
-module _ (editor : Replica) (seen : ℕ) (sent : List Entry) (old : Stacks) (shared : ℕ) (flight : Option ℕ) (is : IsSite editor seen sent old shared flight) where
+module _ (editor : Replica) (untold : Untold) (seen : ℕ) (sent : List Entry) (old : Stacks) (shared : ℕ) (flight : Option ℕ) (is : IsSite editor seen sent old shared flight) where
   abbrev site : Site
-  site = site_of editor seen sent old shared flight
+  site = site_of editor untold seen sent old shared flight
 
   pub unsent_cite : All (EntryCites editor.store) old.done
   unsent_cite = (cite_parts editor.store sent old.done (over_cites editor.store 0 (sent ++ old.done) is.over)).1
@@ -43,14 +44,14 @@ module _ (editor : Replica) (seen : ℕ) (sent : List Entry) (old : Stacks) (sha
     abbrev next : Site
     next = record site { sent = site.sent ++ site.unsent; unsent = []; shared = total; in_flight = Some count }
 
-    sent_same : site_of editor seen all now total (Some count) ≡ next
+    sent_same : site_of editor untold seen all now total (Some count) ≡ next
     sent_same =
         ap (λ es. record next { sent = map (entry_by_value editor.store) all; unsent = map (entry_by_value editor.store) es; undone = map parcel_by_value now.undone }) done
         ∙ (ap (λ ps. record next { sent = map (entry_by_value editor.store) all; undone = map parcel_by_value ps }) undone
         ∙ ap (λ es. record next { sent = es }) (ap (map (entry_by_value editor.store)) sent_all ∙ map-append (entry_by_value editor.store) sent old.done))
 
     pub send_is : flight ≡ None → 0 < count →
-        send site ≡ Ok (site_of editor seen all now total (Some count), record { base = seen; entries = parcels (map (entry_by_value editor.store) old.done) })
+        send site ≡ Ok (site_of editor untold seen all now total (Some count), record { base = seen; entries = parcels (map (entry_by_value editor.store) old.done) })
     send_is idle some =
         let many : count ≡ length site.unsent = counted ∙ sym (length-map old.done (entry_by_value editor.store)) in
         let finish : Site → Result (Site × Submission) SendCause = λ s. Ok (s, record { base = seen; entries = parcels site.unsent }) in
@@ -61,7 +62,7 @@ module _ (editor : Replica) (seen : ℕ) (sent : List Entry) (old : Stacks) (sha
 
     pub sent_is : IsSite editor seen all now total (Some count)
     sent_is = record {
-      stands = subst Stands (sym sent_same) (sent_stands site total (Some count) is.stands);
+      stands = untold_stands (site_of editor untold seen all now total (Some count)) (subst Stands (sym sent_same) (sent_stands site total (Some count) (is.stands untold)));
       over = subst (AreOver editor.store 0) (sym (ap (λ es. all ++ es) done ∙ (append-nil all ∙ sent_all))) is.over;
       undone_cite = subst (All ParcelCites) (sym undone) is.undone_cite;
     }

@@ -10,6 +10,7 @@ use Rattle.model_edit.specs.Translate.{between}
 use Rattle.model_site.specs.Replica.{Replica}
 use Rattle.model_site.specs.Session.{Ack, Foreign}
 use Rattle.model_site.specs.Site.{Site, starting, undo, redo, send}
+use Rattle.model_site.specs.Untold.{none_untold}
 use Rattle.model_site.specs.declared.site_fault.UndoFault.TheVariants as undo_why
 use Rattle.model_site.specs.declared.site_fault.RedoFault.TheVariants as redo_why
 use Rattle.model_site.specs.declared.site_fault.SendFault.TheVariants as send_why
@@ -36,6 +37,7 @@ puts at letter after = Retain at ∷ Replace [] (letters (letter ∷ [])) ∷ Re
 abbrev in_flight : Site
 in_flight = record {
   replica = page (codes "abcd");
+  untold = none_untold 4;
   seen = 2;
   sent = record { txs = puts 1 98 1 ∷ []; store_before = 0; store_after = 0 } ∷ [];
   unsent = record { txs = puts 2 99 1 ∷ []; store_before = 0; store_after = 0 } ∷ [];
@@ -86,8 +88,9 @@ none_is_past_the_store : AreOver (white (codes " ") ∷ []) 0 (numbered 0 2 ∷ 
 none_is_past_the_store h = let low = h.3 in absurd (omega arith)
 
 -- the history's entries are the unsent ones
-by_fields : site_of (page []) 4 (numbered 0 0 ∷ []) (record { done = numbered 0 1 ∷ []; undone = []; spare = 9 }) 7 None ≡ record {
+by_fields : site_of (page []) (none_untold 2) 4 (numbered 0 0 ∷ []) (record { done = numbered 0 1 ∷ []; undone = []; spare = 9 }) 7 None ≡ record {
   replica = page [];
+  untold = record { was = 2; patches = [] };
   seen = 4;
   sent = record { txs = []; store_before = 0; store_after = 0 } ∷ [];
   unsent = record { txs = []; store_before = 0; store_after = 1 } ∷ [];

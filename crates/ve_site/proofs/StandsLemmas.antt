@@ -6,9 +6,10 @@ use Rattle.model_change.specs.Replay.{AllRun, flattened, replay, reversal}
 use Rattle.model_change.specs.Transaction.{Transaction}
 use Rattle.model_change.proofs.ReversalLaw.{reversal_undoes}
 use Rattle.model_edit.specs.declared.selection.Selection.{Selection}
-use Rattle.model_site.specs.Entries.{Entry, Parcel, parcels, reverted}
+use Rattle.model_site.specs.Entries.{Entry, Parcel, parcels}
 use Rattle.model_site.specs.Replica.{Replica}
-use Rattle.model_site.specs.Site.{Site, init_and_last, pending, redo, redo_first, starting, undo, undo_last, with_entry, with_selection}
+use Rattle.model_site.specs.Site.{Site, init_and_last, pending, redo, redo_first, starting, undo, undo_last, with_entry, with_selection, with_undone}
+use Rattle.model_site.specs.Untold.{Untold}
 use Rattle.model_site_law.specs.Chain.{Chain}
 use Rattle.model_site_law.specs.Holds.{Holds}
 use Rattle.model_site_law.specs.SelectionLaws.{StandsIn}
@@ -50,12 +51,8 @@ undone_opened : (s next : Site) (es : List Entry) → undo_last es s ≡ Ok next
 undone_opened s next [] e = cc
 undone_opened s next (x ∷ es) e =
     let p = init_and_last x es in
-    let new : Site = record s { replica = (undone_replica p.1); unsent = p.0; undone = p.1.txs ∷ s.undone } in
-    let same : new ≡ next = cc in
+    let same : with_undone p.1 p.0 s ≡ next = cc in
     ap (λ n. Ok (as_opened n)) same
-  where
-    undone_replica : Entry → Replica
-    undone_replica last = reverted last s.replica
 
 pub undone_stands : (s next : Site) → Stands s → undo s ≡ Ok next → Stands next
 undone_stands s next h done =
@@ -98,6 +95,13 @@ selected_stands s selection h p =
     stands_on (ground_of s) (with_selection selection s) h.sound
     (record { seen = h.holds.seen; list = h.holds.list; runs = h.holds.runs; undone = h.holds.undone; chain = h.holds.chain; held = h.holds.held })
     p
+
+-- what it has not told is of no matter
+pub untold_stands : (s : Site) → Stands s → (untold : Untold) → Stands (record s { untold = untold })
+untold_stands s h untold =
+    stands_on (ground_of s) (record s { untold = untold }) h.sound
+    (record { seen = h.holds.seen; list = h.holds.list; runs = h.holds.runs; undone = h.holds.undone; chain = h.holds.chain; held = h.holds.held })
+    h.selection
 
 -- what runs may be performed
 pub all_stand : (ts : List Transaction) (items : List PlainItem) → AllRun ts items → AllStand ts items

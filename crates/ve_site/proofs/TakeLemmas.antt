@@ -6,7 +6,7 @@ use Rattle.std.proofs.lemmas.List.Elements.{All-nil, All-cons, All-head, All-tai
 use Rattle.ve_base.specs.declared.value.Value.{Value}
 use Rattle.model_items.specs.declared.plain_item.PlainItem.{PlainItem}
 use Rattle.model_items.specs.Plain.{plain}
-use Rattle.model_change.specs.Replay.{AllRun, flattened}
+use Rattle.model_change.specs.Replay.{AllRun, flattened, reversal}
 use Rattle.model_change.specs.Transaction.{Transaction, edited, new_length, old_length}
 use Rattle.model_change.proofs.Fits.{gives_new_length, parts_of_Applies}
 use Rattle.model_site.specs.Entries.{Parcel as ModelParcel, all_reverted, parcels}
@@ -15,6 +15,7 @@ use Rattle.model_site.specs.Joined.{Joined, join_entries}
 use Rattle.model_site.specs.Replica.{Replica, all_performed}
 use Rattle.model_site.specs.Site.{Site, pending}
 use Rattle.model_site.specs.Take.{parcel_entries, take_ack, take_entry}
+use Rattle.model_site.specs.Untold.{Untold, passed}
 use Rattle.model_site_law.proofs.PerformLemmas.{all_performed_grows}
 use Rattle.ve_tx.specs.declared.entry.Entry.{Entry}
 use Rattle.ve_tx.specs.declared.parcel.Parcel.{Parcel}
@@ -35,8 +36,10 @@ use Rattle.ve_site.specs.Ground.{AreOver, Stands, ground_of}
 use Rattle.ve_site.specs.Numbered.{site_of, IsSite}
 use Rattle.ve_site.specs.Taking.{steps_to_take, steps_under}
 use Rattle.ve_site.proofs.DropLemmas.{stack_is}
+use Rattle.ve_site.proofs.NotedLemmas.{back_over}
 use Rattle.ve_site.proofs.OverLemmas.{entries_extended, over_cites}
-use Rattle.ve_site.proofs.StandsLemmas.{all_stand}
+use Rattle.ve_site.proofs.PatchLemmas.{passed_both}
+use Rattle.ve_site.proofs.StandsLemmas.{all_stand, untold_stands}
 use Rattle.ve_site.proofs.TakenLemmas.{acked_stands, committed_runs, has_taken, restacked_stands}
 
 -- ---- lengths, whatever values are cited
@@ -118,9 +121,9 @@ over_rest store least (x ∷ xs) ys h = over_rest store x.store_after xs ys h.3
 
 -- ---- how many are pending
 
-pub pending_count : (editor : Replica) (seen : ℕ) (sent : List Entry) (old : Stacks) (shared : ℕ) (flight : Option ℕ) →
-    length (pending (site_of editor seen sent old shared flight)) ≡ length sent + length old.done
-pending_count editor seen sent old shared flight =
+pub pending_count : (editor : Replica) (untold : Untold) (seen : ℕ) (sent : List Entry) (old : Stacks) (shared : ℕ) (flight : Option ℕ) →
+    length (pending (site_of editor untold seen sent old shared flight)) ≡ length sent + length old.done
+pending_count editor untold seen sent old shared flight =
     let both = length-append (map (entry_by_value editor.store) sent) (map (entry_by_value editor.store) old.done) in
     let first = length-map sent (entry_by_value editor.store) in
     let second = length-map old.done (entry_by_value editor.store) in
@@ -128,10 +131,10 @@ pending_count editor seen sent old shared flight =
 
 -- ---- before the entry is joined
 
-module _ (editor : Replica) (seen : ℕ) (sent : List Entry) (old : Stacks) (shared : ℕ) (flight : Option ℕ) (is : IsSite editor seen sent old shared flight)
-    (foreign : Parcel) (run : AllRun (parcel_by_value foreign) (ground_of (site_of editor seen sent old shared flight))) where
+module _ (editor : Replica) (untold : Untold) (seen : ℕ) (sent : List Entry) (old : Stacks) (shared : ℕ) (flight : Option ℕ) (is : IsSite editor seen sent old shared flight)
+    (foreign : Parcel) (run : AllRun (parcel_by_value foreign) (ground_of (site_of editor untold seen sent old shared flight))) where
   abbrev site : Site
-  site = site_of editor seen sent old shared flight
+  site = site_of editor untold seen sent old shared flight
 
   abbrev all : List Entry
   all = sent ++ old.done
@@ -147,7 +150,7 @@ module _ (editor : Replica) (seen : ℕ) (sent : List Entry) (old : Stacks) (sha
       let floor = ground_of site in
       let mine : RunOnLength (length floor) (map (by_value editor.store) (all_txs all)) =
       subst (RunOnLength (length floor)) (ap (λ es. flattened (parcels es)) (sym together) ∙ flat_over editor.store all)
-      (runs_on (flattened (parcels (pending site))) floor is.stands.holds.runs) in
+      (runs_on (flattened (parcels (pending site))) floor (is.stands untold).holds.runs) in
       record {
         length = length floor;
         committed_run = runs_on ts floor run;
@@ -190,7 +193,7 @@ module _ (editor : Replica) (seen : ℕ) (sent : List Entry) (old : Stacks) (sha
     may_perform =
         subst (λ es. AllStand (parcel_by_value made.committed) (all_reverted es editor).items) (sym gone)
         (subst (λ us. AllStand us (all_reverted (drop (length j.kept) (pending site)) editor).items) (sym committed)
-        (all_stand j.committed (all_reverted (drop (length j.kept) (pending site)) editor).items (committed_runs ts site is.stands run)))
+        (all_stand j.committed (all_reverted (drop (length j.kept) (pending site)) editor).items (committed_runs ts site (is.stands untold) run)))
 
     pub take_counts : (before after : ℕ) →
         after ≤ before + steps_under (map (entry_by_value editor.store) (drop (length made.kept) all)) (parcel_by_value made.committed) editor →
@@ -224,8 +227,9 @@ module _ (editor : Replica) (seen : ℕ) (sent : List Entry) (old : Stacks) (sha
           ∙ (ap (λ us. all_performed us admitted.middle) committed
           ∙ ap (all_performed j.committed) (admitted.dropped.page ∙ ap (λ es. all_reverted es editor) gone))
 
-      module _ (stored next : ℕ) (first : List Entry) (now : Stacks) (is_stored : stored ≡ length new.store) (is_next : next ≡ seen + 1)
-          (first_is : first ≡ map (numbered_alike stored) (take (length sent) made.kept)) (done_is : now.done ≡ map (numbered_alike stored) (drop (length sent) made.kept)) (none : now.undone ≡ []) where
+      module _ (stored next : ℕ) (first : List Entry) (now : Stacks) (later : Untold) (is_stored : stored ≡ length new.store) (is_next : next ≡ seen + 1)
+          (first_is : first ≡ map (numbered_alike stored) (take (length sent) made.kept)) (done_is : now.done ≡ map (numbered_alike stored) (drop (length sent) made.kept)) (none : now.undone ≡ [])
+          (noted : later ≡ passed (back_over editor.store (drop (length made.kept) all) ++ parcel_by_value made.committed) untold) where
         kept_noted : map (entry_by_value new.store) (map (numbered_alike stored) made.kept) ≡ parcel_entries stored j.kept
         kept_noted = alike_noted new.store stored made.kept ∙ ap (parcel_entries stored) (ap parcels by_new ∙ kept)
 
@@ -241,12 +245,20 @@ module _ (editor : Replica) (seen : ℕ) (sent : List Entry) (old : Stacks) (sha
             ∙ (sym (drop-map (entry_by_value new.store) (length sent) (map (numbered_alike stored) made.kept))
             ∙ (ap (drop (length sent)) kept_noted ∙ ap (λ n. drop n (parcel_entries stored j.kept)) (sym (length-map sent (entry_by_value editor.store)))))
 
-        pub taken_same : site_of new next first now shared flight ≡ take_entry ts site
+        noted_same : later ≡ passed (reversal (flattened (parcels (drop (length j.kept) (pending site)))) ++ j.committed) untold
+        noted_same =
+            noted
+            ∙ (ap (λ us. passed (back_over editor.store (drop (length made.kept) all) ++ us) untold) committed
+            ∙ ap (λ es. passed (reversal (flattened (parcels es)) ++ j.committed) untold) gone)
+
+        pub taken_same : site_of new later next first now shared flight ≡ take_entry ts site
         taken_same =
-            let left = site_of new next first now shared flight in
+            let told = passed (reversal (flattened (parcels (drop (length j.kept) (pending site)))) ++ j.committed) untold in
+            let left = site_of new told next first now shared flight in
             let count_next : next ≡ suc seen = omega (arith, is_next) in
             let with_replica : Replica → Site = λ r. record {
               replica = r;
+              untold = told;
               seen = suc seen;
               sent = take (length site.sent) (parcel_entries (length r.store) j.kept);
               unsent = drop (length site.sent) (parcel_entries (length r.store) j.kept);
@@ -254,13 +266,14 @@ module _ (editor : Replica) (seen : ℕ) (sent : List Entry) (old : Stacks) (sha
               shared = shared;
               in_flight = flight;
             } in
-            ap (λ n. record left { seen = n }) count_next
+            ap (λ n. site_of new n next first now shared flight) noted_same
+            ∙ (ap (λ n. record left { seen = n }) count_next
             ∙ (ap (λ es. record left { seen = suc seen; sent = es }) first_same
             ∙ (ap (λ es. record left { seen = suc seen; sent = take (length site.sent) (parcel_entries stored j.kept); unsent = es }) done_same
             ∙ (ap (λ ps. record left { seen = suc seen; sent = take (length site.sent) (parcel_entries stored j.kept); unsent = drop (length site.sent) (parcel_entries stored j.kept); undone = map parcel_by_value ps })
             none
             ∙ (ap (λ n. record left { seen = suc seen; sent = take (length site.sent) (parcel_entries n j.kept); unsent = drop (length site.sent) (parcel_entries n j.kept); undone = [] }) is_stored
-            ∙ ap with_replica page))))
+            ∙ ap with_replica page)))))
 
         pub taken_is : IsSite new next first now shared flight
         taken_is =
@@ -271,14 +284,14 @@ module _ (editor : Replica) (seen : ℕ) (sent : List Entry) (old : Stacks) (sha
             let over : AreOver new.store 0 (map (numbered_alike (length new.store)) made.kept) =
             alike_over new.store 0 made.kept (omega arith) (cites_grown base new.store made.kept new_extends kept_cite) in
             record {
-              stands = subst Stands (sym taken_same) (has_taken ts site is.stands run).stands;
+              stands = untold_stands (site_of new later next first now shared flight) (subst Stands (sym taken_same) (has_taken ts site (is.stands untold) run).stands);
               over = subst (AreOver new.store 0) both (subst (λ n. AreOver new.store 0 (map (numbered_alike n) made.kept)) (sym is_stored) over);
               undone_cite = subst (All ParcelCites) (sym none) (All-nil ParcelCites);
             }
 
-        pub left_pending : length made.kept ≡ length (pending (site_of new next first now shared flight))
+        pub left_pending : length made.kept ≡ length (pending (site_of new later next first now shared flight))
         left_pending =
-            let whole = pending_count new next first now shared flight in
+            let whole = pending_count new later next first now shared flight in
             let a = ap length first_is ∙ length-map (take (length sent) made.kept) (numbered_alike stored) in
             let b = ap length done_is ∙ length-map (drop (length sent) made.kept) (numbered_alike stored) in
             let parts = length-append (take (length sent) made.kept) (drop (length sent) made.kept) in
@@ -287,11 +300,11 @@ module _ (editor : Replica) (seen : ℕ) (sent : List Entry) (old : Stacks) (sha
 
 -- ---- the answer to what it sent
 
-module _ (editor : Replica) (seen : ℕ) (sent : List Entry) (old : Stacks) (shared : ℕ) (flight : Option ℕ) (is : IsSite editor seen sent old shared flight)
+module _ (editor : Replica) (untold : Untold) (seen : ℕ) (sent : List Entry) (old : Stacks) (shared : ℕ) (flight : Option ℕ) (is : IsSite editor seen sent old shared flight)
     (next : ℕ) (none_sent : List Entry) (now : Stacks) (is_next : next ≡ seen + length sent) (none : none_sent ≡ []) (done : now.done ≡ old.done) (undone : now.undone ≡ []) where
-  pub acked_same : site_of editor next none_sent now shared None ≡ take_ack (site_of editor seen sent old shared flight)
+  pub acked_same : site_of editor untold next none_sent now shared None ≡ take_ack (site_of editor untold seen sent old shared flight)
   acked_same =
-      let left = site_of editor next none_sent now shared None in
+      let left = site_of editor untold next none_sent now shared None in
       ap (λ n. record left { seen = n }) (is_next ∙ ap (λ n. seen + n) (sym (length-map sent (entry_by_value editor.store))))
       ∙ (ap (λ es. record left { seen = seen + length (map (entry_by_value editor.store) sent); sent = map (entry_by_value editor.store) es }) none
       ∙ (ap (λ es. record left { seen = seen + length (map (entry_by_value editor.store) sent); sent = []; unsent = map (entry_by_value editor.store) es }) done
@@ -301,28 +314,28 @@ module _ (editor : Replica) (seen : ℕ) (sent : List Entry) (old : Stacks) (sha
   acked_is =
       let left : none_sent ++ now.done ≡ old.done = ap (λ l. l ++ now.done) none ∙ done in
       record {
-        stands = subst Stands (sym acked_same) (acked_stands (site_of editor seen sent old shared flight) is.stands);
+        stands = untold_stands (site_of editor untold next none_sent now shared None) (subst Stands (sym acked_same) (acked_stands (site_of editor untold seen sent old shared flight) (is.stands untold)));
         over = subst (AreOver editor.store 0) (sym left) (over_rest editor.store 0 sent old.done is.over);
         undone_cite = subst (All ParcelCites) (sym undone) (All-nil ParcelCites);
       }
 
 -- ---- a copy with nothing undone
 
-module _ (editor : Replica) (seen : ℕ) (sent : List Entry) (old : Stacks) (shared : ℕ) (flight : Option ℕ) (is : IsSite editor seen sent old shared flight)
+module _ (editor : Replica) (untold : Untold) (seen : ℕ) (sent : List Entry) (old : Stacks) (shared : ℕ) (flight : Option ℕ) (is : IsSite editor seen sent old shared flight)
     (copy : Replica) (copied : List Entry) (now : Stacks) (page : copy ≡ editor) (same_sent : copied ≡ sent) (done : now.done ≡ old.done) (undone : now.undone ≡ []) where
   abbrev cleared : Site
-  cleared = record (site_of editor seen sent old shared flight) { undone = [] }
+  cleared = record (site_of editor untold seen sent old shared flight) { undone = [] }
 
-  pub copied_same : site_of copy seen copied now shared flight ≡ cleared
+  pub copied_same : site_of copy untold seen copied now shared flight ≡ cleared
   copied_same =
-      ap (λ r. site_of r seen copied now shared flight) page
-      ∙ (ap (λ es. record (site_of editor seen copied now shared flight) { sent = map (entry_by_value editor.store) es }) same_sent
+      ap (λ r. site_of r untold seen copied now shared flight) page
+      ∙ (ap (λ es. record (site_of editor untold seen copied now shared flight) { sent = map (entry_by_value editor.store) es }) same_sent
       ∙ (ap (λ es. record cleared { unsent = map (entry_by_value editor.store) es; undone = map parcel_by_value now.undone }) done
       ∙ ap (λ ps. record cleared { undone = map parcel_by_value ps }) undone))
 
   pub copied_is : IsSite copy seen copied now shared flight
   copied_is = record {
-    stands = subst Stands (sym copied_same) (restacked_stands (site_of editor seen sent old shared flight) cleared is.stands refl refl refl);
+    stands = untold_stands (site_of copy untold seen copied now shared flight) (subst Stands (sym copied_same) (restacked_stands (site_of editor untold seen sent old shared flight) cleared (is.stands untold) refl refl refl));
     over = subst (λ (r : Replica). AreOver r.store 0 (copied ++ now.done)) (sym page)
         (subst (λ es. AreOver editor.store 0 (es ++ now.done)) (sym same_sent) (subst (λ es. AreOver editor.store 0 (sent ++ es)) (sym done) is.over));
     undone_cite = subst (All ParcelCites) (sym undone) (All-nil ParcelCites);
@@ -330,11 +343,11 @@ module _ (editor : Replica) (seen : ℕ) (sent : List Entry) (old : Stacks) (sha
 
 -- ---- an entry taken, as the call lends the pending entries
 
-module _ (editor : Replica) (seen : ℕ) (sent : List Entry) (old : Stacks) (shared : ℕ) (flight : Option ℕ) (is : IsSite editor seen sent old shared flight)
-    (foreign : Parcel) (run : AllRun (parcel_by_value foreign) (ground_of (site_of editor seen sent old shared flight))) (lent later : List Entry) (lent_is : lent ≡ sent)
-    (later_is : later ≡ old.done) (made : EntriesUnder) (made_is : AreUnder foreign (lent ++ later) made) (left : List Entry) (left_is : left ≡ made.kept) where
-  both : lent ++ later ≡ sent ++ old.done
-  both = ap (λ l. l ++ later) lent_is ∙ ap (λ l. sent ++ l) later_is
+module _ (editor : Replica) (untold : Untold) (seen : ℕ) (sent : List Entry) (old : Stacks) (shared : ℕ) (flight : Option ℕ) (is : IsSite editor seen sent old shared flight)
+    (foreign : Parcel) (run : AllRun (parcel_by_value foreign) (ground_of (site_of editor untold seen sent old shared flight))) (lent behind : List Entry) (lent_is : lent ≡ sent)
+    (behind_is : behind ≡ old.done) (made : EntriesUnder) (made_is : AreUnder foreign (lent ++ behind) made) (left : List Entry) (left_is : left ≡ made.kept) where
+  both : lent ++ behind ≡ sent ++ old.done
+  both = ap (λ l. l ++ behind) lent_is ∙ ap (λ l. sent ++ l) behind_is
 
   under : AreUnder foreign (sent ++ old.done) made
   under = subst (λ es. AreUnder foreign es made) both made_is
@@ -342,29 +355,30 @@ module _ (editor : Replica) (seen : ℕ) (sent : List Entry) (old : Stacks) (sha
   as_many : length left ≡ length made.kept
   as_many = ap length left_is
 
-  pub lent_stack : IsStack editor (lent ++ later)
+  pub lent_stack : IsStack editor (lent ++ behind)
   lent_stack = subst (IsStack editor) (sym both) (stack_is editor seen sent old shared flight is)
 
-  pub lent_within : length left ≤ length (lent ++ later)
+  pub lent_within : length left ≤ length (lent ++ behind)
   lent_within =
-      subst (λ es. length left ≤ length es) (sym both) (subst (λ n. n ≤ length (sent ++ old.done)) (sym as_many) (left_within editor seen sent old shared flight is foreign run made under))
+      subst (λ es. length left ≤ length es) (sym both) (subst (λ n. n ≤ length (sent ++ old.done)) (sym as_many) (left_within editor untold seen sent old shared flight is foreign run made under))
 
-  pub lent_stands : AllStand (parcel_by_value made.committed) (all_reverted (map (entry_by_value editor.store) (drop (length left) (lent ++ later))) editor).items
+  pub lent_stands : AllStand (parcel_by_value made.committed) (all_reverted (map (entry_by_value editor.store) (drop (length left) (lent ++ behind))) editor).items
   lent_stands =
       subst (λ es. AllStand (parcel_by_value made.committed) (all_reverted (map (entry_by_value editor.store) (drop (length left) es)) editor).items) (sym both)
       (subst (λ n. AllStand (parcel_by_value made.committed) (all_reverted (map (entry_by_value editor.store) (drop n (sent ++ old.done))) editor).items) (sym as_many)
-      (may_perform editor seen sent old shared flight is foreign run made under))
+      (may_perform editor untold seen sent old shared flight is foreign run made under))
 
-  pub lent_counts : (before after : ℕ) → after ≤ before + steps_under (map (entry_by_value editor.store) (drop (length left) (lent ++ later))) (parcel_by_value made.committed) editor →
-      after ≤ before + steps_to_take (parcel_by_value foreign) (site_of editor seen sent old shared flight)
+  pub lent_counts : (before after : ℕ) → after ≤ before + steps_under (map (entry_by_value editor.store) (drop (length left) (lent ++ behind))) (parcel_by_value made.committed) editor →
+      after ≤ before + steps_to_take (parcel_by_value foreign) (site_of editor untold seen sent old shared flight)
   lent_counts before after h =
-      take_counts editor seen sent old shared flight is foreign run made under before after
+      take_counts editor untold seen sent old shared flight is foreign run made under before after
       (subst (λ n. after ≤ before + steps_under (map (entry_by_value editor.store) (drop n (sent ++ old.done))) (parcel_by_value made.committed) editor) as_many
       (subst (λ es. after ≤ before + steps_under (map (entry_by_value editor.store) (drop (length left) es)) (parcel_by_value made.committed) editor) both h))
 
-  module _ (new : Replica) (lent_admitted : IsAdmitted editor (lent ++ later) (length left) (parcel_by_value made.committed) new) (stored next : ℕ) (first : List Entry) (now : Stacks)
-      (is_stored : stored ≡ length new.store) (is_next : next ≡ seen + 1) (first_lent : first ≡ map (numbered_alike stored) (take (length lent) made.kept))
-      (done_lent : now.done ≡ map (numbered_alike stored) (drop (length lent) made.kept)) (none : now.undone ≡ []) where
+  module _ (new : Replica) (lent_admitted : IsAdmitted editor (lent ++ behind) (length left) (parcel_by_value made.committed) new) (stored next : ℕ) (first : List Entry) (now : Stacks)
+      (noted dropped : Untold) (is_stored : stored ≡ length new.store) (is_next : next ≡ seen + 1) (first_lent : first ≡ map (numbered_alike stored) (take (length lent) made.kept))
+      (done_lent : now.done ≡ map (numbered_alike stored) (drop (length lent) made.kept)) (none : now.undone ≡ [])
+      (dropped_noted : dropped ≡ passed (back_over editor.store (drop (length left) (lent ++ behind))) untold) (committed_noted : noted ≡ passed (parcel_by_value made.committed) dropped) where
     admitted : IsAdmitted editor (sent ++ old.done) (length made.kept) (parcel_by_value made.committed) new
     admitted =
         subst (λ n. IsAdmitted editor (sent ++ old.done) n (parcel_by_value made.committed) new) as_many
@@ -376,11 +390,19 @@ module _ (editor : Replica) (seen : ℕ) (sent : List Entry) (old : Stacks) (sha
     done_is : now.done ≡ map (numbered_alike stored) (drop (length sent) made.kept)
     done_is = done_lent ∙ ap (λ l. map (numbered_alike stored) (drop (length l) made.kept)) lent_is
 
-    pub lent_same : site_of new next first now shared flight ≡ take_entry (parcel_by_value foreign) (site_of editor seen sent old shared flight)
-    lent_same = taken_same editor seen sent old shared flight is foreign run made under new admitted stored next first now is_stored is_next first_is done_is none
+    all_noted : noted ≡ passed (back_over editor.store (drop (length made.kept) (sent ++ old.done)) ++ parcel_by_value made.committed) untold
+    all_noted =
+        committed_noted
+        ∙ (ap (passed (parcel_by_value made.committed)) dropped_noted
+        ∙ (passed_both (back_over editor.store (drop (length left) (lent ++ behind))) (parcel_by_value made.committed) untold
+        ∙ (ap (λ es. passed (back_over editor.store (drop (length left) es) ++ parcel_by_value made.committed) untold) both
+        ∙ ap (λ n. passed (back_over editor.store (drop n (sent ++ old.done)) ++ parcel_by_value made.committed) untold) as_many)))
+
+    pub lent_same : site_of new noted next first now shared flight ≡ take_entry (parcel_by_value foreign) (site_of editor untold seen sent old shared flight)
+    lent_same = taken_same editor untold seen sent old shared flight is foreign run made under new admitted stored next first now noted is_stored is_next first_is done_is none all_noted
 
     pub lent_is_site : IsSite new next first now shared flight
-    lent_is_site = taken_is editor seen sent old shared flight is foreign run made under new admitted stored next first now is_stored is_next first_is done_is none
+    lent_is_site = taken_is editor untold seen sent old shared flight is foreign run made under new admitted stored next first now noted is_stored is_next first_is done_is none all_noted
 
-    pub lent_pending : length left ≡ length (pending (site_of new next first now shared flight))
-    lent_pending = as_many ∙ left_pending editor seen sent old shared flight is foreign run made under new admitted stored next first now is_stored is_next first_is done_is none
+    pub lent_pending : length left ≡ length (pending (site_of new noted next first now shared flight))
+    lent_pending = as_many ∙ left_pending editor untold seen sent old shared flight is foreign run made under new admitted stored next first now noted is_stored is_next first_is done_is none all_noted

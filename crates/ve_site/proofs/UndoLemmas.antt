@@ -13,6 +13,7 @@ use Rattle.model_site.specs.Entries.{parcels, reverted}
 use Rattle.model_site.specs.Entries.{Entry as ModelEntry}
 use Rattle.model_site.specs.Replica.{Replica, all_put_back}
 use Rattle.model_site.specs.Site.{Site, init_and_last, with_undone, pending, undo, undo_last}
+use Rattle.model_site.specs.Untold.{Untold, passed}
 use Rattle.model_site_law.specs.Chain.{Chain}
 use Rattle.model_site_law.specs.Sound.{AllIn}
 use Rattle.model_site_law.proofs.ChainLemmas.{chain_rest}
@@ -33,7 +34,7 @@ use Rattle.ve_site.specs.Ground.{AreOver, Stands, ground_of}
 use Rattle.ve_site.specs.Numbered.{site_of, IsSite}
 use Rattle.ve_site.specs.Refusal.{IsUndoRefusal}
 use Rattle.ve_site.proofs.OverLemmas.{IsLast, over_last, over_grown, over_cites, cite_parts, entries_extended, prefix_extends, prefix_stays}
-use Rattle.ve_site.proofs.StandsLemmas.{all_stand, undone_stands}
+use Rattle.ve_site.proofs.StandsLemmas.{all_stand, undone_stands, untold_stands}
 
 -- ---- the last of a list
 
@@ -85,10 +86,10 @@ can_go s xs x h part =
       held = (chain_rest s.replica.store 0 floor (s.sent ++ xs) (x ∷ []) chained).2;
     }
 
-module _ (editor : Replica) (seen : ℕ) (sent : List Entry) (old : Stacks) (shared : ℕ) (flight : Option ℕ) (is : IsSite editor seen sent old shared flight)
+module _ (editor : Replica) (untold : Untold) (seen : ℕ) (sent : List Entry) (old : Stacks) (shared : ℕ) (flight : Option ℕ) (is : IsSite editor seen sent old shared flight)
     (last : Entry) (ends : slice_get old.done (length old.done - 1) ≡ Some last) where
   abbrev site : Site
-  site = site_of editor seen sent old shared flight
+  site = site_of editor untold seen sent old shared flight
 
   abbrev others : List Entry
   others = without_last old.done
@@ -103,7 +104,7 @@ module _ (editor : Replica) (seen : ℕ) (sent : List Entry) (old : Stacks) (sha
   unsent_is = ap (map (entry_by_value editor.store)) split ∙ map-append (entry_by_value editor.store) others (last ∷ [])
 
   gone : CanGo site x
-  gone = can_go site (map (entry_by_value editor.store) others) x is.stands unsent_is
+  gone = can_go site (map (entry_by_value editor.store) others) x (is.stands untold) unsent_is
 
   over : IsLast editor.store 0 (sent ++ others) last
   over = over_last editor.store 0 (sent ++ others) last (subst (AreOver editor.store 0) (ap (λ es. sent ++ es) split ∙ sym (append_assoc sent others (last ∷ []))) is.over)
@@ -149,24 +150,26 @@ module _ (editor : Replica) (seen : ℕ) (sent : List Entry) (old : Stacks) (sha
         entries_extended (take last.store_before editor.store) new.store es left_extends h
         ∙ sym (entries_extended (take last.store_before editor.store) editor.store es (prefix_extends last.store_before editor.store) h)
 
-    module _ (parcel : Parcel) (now : Stacks) (by_values : parcel_by_value parcel ≡ x.txs) (done : now.done ≡ others) (undone : now.undone ≡ parcel ∷ old.undone) where
-      undone_same : site_of new seen sent now shared flight ≡
-          record site { replica = reverted x editor; unsent = map (entry_by_value editor.store) others; undone = x.txs ∷ site.undone }
+    module _ (parcel : Parcel) (now : Stacks) (later : Untold) (by_values : parcel_by_value parcel ≡ x.txs) (done : now.done ≡ others) (undone : now.undone ≡ parcel ∷ old.undone)
+        (noted : later ≡ passed (reversal x.txs) untold) where
+      undone_same : site_of new later seen sent now shared flight ≡ with_undone x (map (entry_by_value editor.store) others) site
       undone_same =
           let parts = cite_parts (take last.store_before editor.store) sent others (over_cites (take last.store_before editor.store) 0 (sent ++ others) over.before) in
-          let left = site_of new seen sent now shared flight in
-          ap (λ r. record left { replica = r }) page
+          let left = site_of new (passed (reversal x.txs) untold) seen sent now shared flight in
+          let there : Site = with_undone x (map (entry_by_value editor.store) others) site in
+          ap (λ n. site_of new n seen sent now shared flight) noted
+          ∙ (ap (λ r. record left { replica = r }) page
           ∙ (ap (λ es. record left { replica = reverted x editor; sent = es }) (same_by_value sent parts.0)
           ∙ (ap (λ es. record left { replica = reverted x editor; sent = site.sent; unsent = es }) (ap (map (entry_by_value new.store)) done ∙ same_by_value others parts.1)
-          ∙ (ap (λ ps. record site { replica = reverted x editor; unsent = map (entry_by_value editor.store) others; undone = map parcel_by_value ps }) undone
-          ∙ ap (λ ts. record site { replica = reverted x editor; unsent = map (entry_by_value editor.store) others; undone = ts ∷ site.undone }) by_values)))
+          ∙ (ap (λ ps. record there { undone = map parcel_by_value ps }) undone
+          ∙ ap (λ ts. record there { undone = ts ∷ site.undone }) by_values))))
 
-      pub undo_is : undo site ≡ Ok (site_of new seen sent now shared flight)
+      pub undo_is : undo site ≡ Ok (site_of new later seen sent now shared flight)
       undo_is = ap (λ es. undo_last es site) unsent_is ∙ (undone_end (map (entry_by_value editor.store) others) x site ∙ ap (λ s. Ok s) (sym undone_same))
 
       pub undone_is : ParcelCites parcel → IsSite new seen sent now shared flight
       undone_is cites = record {
-        stands = undone_stands site (site_of new seen sent now shared flight) is.stands undo_is;
+        stands = untold_stands (site_of new later seen sent now shared flight) (undone_stands site (site_of new later seen sent now shared flight) (is.stands untold) undo_is);
         over = subst (λ es. AreOver new.store 0 (sent ++ es)) (sym done) (over_grown (take last.store_before editor.store) new.store 0 (sent ++ others) left_extends over.before);
         undone_cite = subst (All ParcelCites) (sym undone) (All-cons ParcelCites parcel old.undone cites is.undone_cite);
       }

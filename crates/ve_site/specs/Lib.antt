@@ -3,6 +3,7 @@ pub use Rattle.model_site.specs.Replica
 pub use Rattle.model_site.specs.Entries
 pub use Rattle.model_site.specs.Joined
 pub use Rattle.model_site.specs.Take
+pub use Rattle.model_site.specs.Untold
 pub use Rattle.model_site.specs.Session
 pub use Rattle.model_site_law.specs.Sound
 pub use Rattle.model_site_law.specs.Holds
@@ -19,4 +20,5 @@ pub mod Settled
 pub mod Refusal
 pub mod Taking
 pub mod Dropped
+pub mod Patches
 pub mod Laws

@@ -2,6 +2,7 @@
 use Rattle.std.specs.Prelude.{ℕ, List, All, map, ◌++◌, Option}
 use Rattle.model_site.specs.Replica.{Replica}
 use Rattle.model_site.specs.Site.{Site}
+use Rattle.model_site.specs.Untold.{Untold}
 use Rattle.ve_tx.specs.declared.entry.Entry.{Entry}
 use Rattle.ve_tx.specs.ByValue.{parcel_by_value, ParcelCites}
 use Rattle.ve_editor.specs.Edited.{entry_by_value}
@@ -17,9 +18,10 @@ abbrev pub with_site : Site → Numbered → Numbered
 with_site site s = record { number = s.number; site = site }
 
 -- The entries over the editor's store; those that are not sent are done in the history.
-abbrev pub site_of : Replica → (seen : ℕ) → (sent : List Entry) → Stacks → (shared : ℕ) → (in_flight : Option ℕ) → Site
-site_of editor seen sent history shared in_flight = record {
+abbrev pub site_of : Replica → Untold → (seen : ℕ) → (sent : List Entry) → Stacks → (shared : ℕ) → (in_flight : Option ℕ) → Site
+site_of editor untold seen sent history shared in_flight = record {
   replica = editor;
+  untold = untold;
   seen = seen;
   sent = map (entry_by_value editor.store) sent;
   unsent = map (entry_by_value editor.store) history.done;
@@ -28,8 +30,8 @@ site_of editor seen sent history shared in_flight = record {
   in_flight = in_flight;
 }
 
--- the invariant of a site's fields
+-- the invariant of a site's fields, whatever it has not told
 pub record IsSite (editor : Replica) (seen : ℕ) (sent : List Entry) (history : Stacks) (shared : ℕ) (in_flight : Option ℕ) : Type 0 where
-  pub stands : Stands (site_of editor seen sent history shared in_flight)
+  pub stands : (untold : Untold) → Stands (site_of editor untold seen sent history shared in_flight)
   pub over : AreOver editor.store 0 (sent ++ history.done)
   pub undone_cite : All ParcelCites history.undone

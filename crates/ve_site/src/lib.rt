@@ -1,7 +1,8 @@
 //! A site: its editor, the entries that it sent and has no answer for, those that it has not sent,
 //! and those that it undid. Each call is the model's, but for want of memory: `edit`, `settle`,
-//! `undo`, `redo`, `adopt`, `send`, `take` and `select` make of a site what model_site says, or
-//! refuse it exactly where that does. `pending` gives its pending entries serialised.
+//! `undo`, `redo`, `adopt`, `send`, `take`, `select` and `tell` make of a site what model_site
+//! says, or refuse it exactly where that does. `pending` gives its pending entries serialised, and
+//! `told` what changed in its list since `tell`, as patches.
 //!
 //! Proved: but for want of memory, each call is the model's, or is refused as it is. Where a call
 //! fails nothing changes. An edit, an undo, a redo, an adoption and a take have bounds on their
@@ -13,7 +14,7 @@
 //! specs/Refusal.antt says how a refusal is told. specs/Counted.antt says what a call performs, by
 //! which its steps are bounded. specs/Taking.antt says both of a take, and specs/Settled.antt
 //! defines the changed copy that a site takes. specs/Dropped.antt serves private functions: pending
-//! entries taken back.
+//! entries taken back. So does specs/Patches.antt: what operations change.
 //!
 //! Laws: `takes_are_bounded` (specs/Laws.antt) says what a take counts in plain words, and when it
 //! joins no transaction that is too long. `settling_performs` (specs/Settled.antt) says that a site
@@ -24,13 +25,18 @@
 //! The type keeps the invariant on the site's confirmed list: its list with its pending entries
 //! taken back. Neither the opened page nor a committed entry is kept for that. A take is counted by
 //! definition, so one that copied the page for each entry wouldn't meet the bound.
+//!
+//! What it has not told is noted while it changes, in memory that is taken when it begins. So no
+//! call fails for want of it, and a call that fails notes nothing: the notes are made last.
 #![tactic(auto)]
 
 mod laws;
 mod pending;
 mod sent;
 mod site;
+mod take;
+mod untold;
 
 pub use laws::{settling_performs, takes_are_bounded};
-pub use model_site::{EditFault, RedoFault, SendFault, Taken, UndoFault};
+pub use model_site::{EditFault, MAX_PATCHES, Patch, RedoFault, SendFault, Taken, UndoFault};
 pub use site::Site;

@@ -1,11 +1,14 @@
 // Pending entries under an entry of another site.
 ghost use Rattle.std.specs.Prelude.{◌≡◌, ◌≤◌, ◌+◌, ◌++◌, length, map, take, drop, IfOk, OnOk, OnErr};
-ghost use Rattle.model_site.specs.Entries.{all_reverted};
+ghost use Rattle.model_change.specs.Replay.{flattened, reversal};
+ghost use Rattle.model_site.specs.Entries.{all_reverted, parcels};
+ghost use Rattle.model_site.specs.Untold.{passed};
 ghost use Rattle.ve_tx.specs.ByValue.{parcel_by_value, ParcelCites};
 ghost use Rattle.ve_editor.specs.Edited.{AllStand, entry_by_value};
 ghost use Rattle.ve_site.specs.Dropped.{AreDropped, IsAdmitted, IsStack, numbered_alike};
 ghost use Rattle.ve_site.specs.Taking.{steps_back, steps_under};
 
+use crate::untold::Untold;
 use std::alloc::Global;
 use std::sync::ledger::Ledger;
 use ve_base::{Memory, Steps};
@@ -82,6 +85,20 @@ pub fn admit_under<L: Ledger>(
     let last = other.admit(committed, steps)?;
     *editor = other;
     Ok(last.store_after)
+}
+
+/// Notes that all entries but the first so many were taken back, the last one first.
+pub fn note_dropped(untold: &mut Untold, sent: &[Entry], unsent: &[Entry], left: usize)
+    requires { left ≤ length (sent.now ++ unsent.now) }
+    ensures { (values : _)
+        → untold.new
+        ≡ passed (
+        reversal (
+        flattened (parcels (map (entry_by_value values) (drop left (sent.now ++ unsent.now))))))
+        untold.old }
+{
+    untold.note_all_back(&unsent[left.saturating_sub(sent.len())..]);
+    untold.note_all_back(&sent[left.min(sent.len())..]);
 }
 
 /// Entries parted at a position.

@@ -3,25 +3,22 @@ ghost use Rattle.std.specs.Prelude.{◌≡◌, ◌≤◌, ◌+◌, ◌==◌, if�
 ghost use Rattle.model_change.specs.Transaction.{Transaction, InsertedApart};
 ghost use Rattle.model_site.specs.Entries.{entry_of, parcels, reverted};
 ghost use Rattle.model_site.specs.Replica.{all_performed};
-ghost use Rattle.model_change.specs.Replay.{AllRun, flattened};
-ghost use Rattle.model_site.specs.Session.{site_after, taken_as};
-ghost use Rattle.model_site.specs.Site.{Site as ModelSite, edit, pending, redo, send, starting, undo, with_entry, with_selection};
-ghost use Rattle.model_site.specs.Take.{take_ack, take_entry, take_foreign};
+ghost use Rattle.model_change.specs.Replay.{AllRun};
+ghost use Rattle.model_site.specs.Site.{Site as ModelSite, edit, pending, redo, send, starting, undo, told, with_entry, with_selection, with_told};
 ghost use Rattle.model_site_law.specs.Sound.{AllMayRun, Sound};
 ghost use Rattle.model_site_law.specs.SelectionLaws.{StandsIn};
 
-use crate::pending::{admit_under, parted, renumbered};
 use crate::sent::parcels_of;
+use crate::untold::Untold;
 use model_edit::Selection;
-use model_site::{EditFault, RedoFault, SendFault, Taken, UndoFault};
+use model_site::{EditFault, Patch, RedoFault, SendFault, UndoFault};
 use std::alloc::Global;
 use std::marker::Model;
 use std::sync::ledger::Ledger;
 use ve_base::{Memory, Steps};
 use ve_editor::Editor;
 use ve_history::History;
-use ve_rebase::{EntriesUnder, entries_under};
-use ve_server::{Feed, Parcels, Submit};
+use ve_server::{Parcels, Submit};
 use ve_tx::{Draft, Entry, EntryList, Parcel};
 
 /// A site: its editor, the entries that it sent and has no answer for, those that it has not sent,
@@ -29,17 +26,19 @@ use ve_tx::{Draft, Entry, EntryList, Parcel};
 #[derive(Drop)]
 pub struct Site {
     number: u32,
-    editor: Editor,
+    pub(crate) editor: Editor,
+    // what it has not told of how its list changed
+    pub(crate) untold: Untold,
     // how many committed entries its list has
-    seen: usize,
-    sent: Vec<Entry>,
+    pub(crate) seen: usize,
+    pub(crate) sent: Vec<Entry>,
     // the entries that are not sent, and those that were undone
-    history: History,
+    pub(crate) history: History,
     // how many entries it sent since the page was opened
     shared: usize,
     // how many entries the submission has that is on its way
-    in_flight: Option<usize>,
-    alloc: Global,
+    pub(crate) in_flight: Option<usize>,
+    pub(crate) alloc: Global,
 }
 
 impl Model for Site {
@@ -47,7 +46,7 @@ impl Model for Site {
 
     ghost Value = { Numbered };
 
-    ghost view = { λ s. record { number = s.number; site = site_of s.editor s.seen s.sent.items s.history s.shared s.in_flight } };
+    ghost view = { λ s. record { number = s.number; site = site_of s.editor s.untold s.seen s.sent.items s.history s.shared s.in_flight } };
 
     ghost invariant = { λ s. IsSite s.editor s.seen s.sent.items s.history s.shared s.in_flight };
 }
@@ -68,35 +67,34 @@ impl Site {
     ghost use Rattle.ve_editor.specs.Refusal.{IsEditRefusal};
     ghost use Rattle.ve_editor.specs.Counted.{steps_after, steps_over};
     ghost use Rattle.ve_site.specs.Counted.{undoing, redoing};
-    ghost use Rattle.ve_server.specs.Fed.{feed_of, submission_of};
+    ghost use Rattle.ve_server.specs.Fed.{submission_of};
     ghost use Rattle.ve_tree.specs.TreeOf.{most_steps};
     ghost use Rattle.ve_tx.specs.ByValue.{parcel_by_value, ParcelCites};
-    ghost use Rattle.ve_site.specs.Ground.{ground_of};
-    ghost use Rattle.ve_site.specs.Taking.{MayTake, steps_of_feed, steps_of_take, steps_to_take, steps_to_take_all};
     ghost use Rattle.ve_site.specs.Numbered.{with_site};
     ghost use Rattle.ve_site.specs.Settled.{with_new_entry, Settles};
     ghost use Rattle.ve_site.specs.Refusal.{IsUndoRefusal, IsRedoRefusal, IsSendRefusal};
     ghost use Rattle.model_site.specs.Refused.{edit_cause};
 
     /// A site with the page that was opened, which has seen no committed entry and has nothing
-    /// pending. It takes no memory.
-    pub fn new(alloc: Global, number: u32, editor: Editor) -> Site
+    /// pending. It has told nothing yet. Its only `Err` is want of memory.
+    pub fn new(alloc: Global, number: u32, editor: Editor) -> Result<Site, Memory>
         requires sound { Sound editor.items }
         requires selection { StandsIn editor.items editor.selection }
-        ensures { result ≡ record { number = number; site = starting editor } }
+        ensures { IfOk result (λ site.
+            site ≡ record { number = number; site = starting editor }) }
     {
-        // its type keeps that its store has what its list cites, which `doc` tells
-        let _doc = editor.doc();
-        Site {
+        let untold = Untold::new(alloc, editor.doc().list.len())?;
+        Ok(Site {
             number,
             editor,
+            untold,
             seen: 0,
             sent: Vec::new(alloc),
             history: History::new(alloc),
             shared: 0,
             in_flight: None,
             alloc,
-        }
+        })
     }
 
     /// Its number among the sites.
@@ -128,6 +126,25 @@ impl Site {
         self.editor.select(selection);
     }
 
+    /// What changed in its list since it was told, as patches, one after the other; at first all
+    /// that was opened has come. A patch counts items: from a position on, so many went and so many
+    /// came. A position is one of the list that the patches before it gave. A view that keeps the
+    /// list of the last time makes room for each patch in turn, and fetches the items that they put
+    /// in from the list as it is now. Of over `MAX_PATCHES` one patch is told, of the whole list.
+    pub fn told(&self) -> Result<Vec<Patch>, Memory>
+        ensures { IfOk result (λ patches. patches.items ≡ told self.now.site) }
+    {
+        self.untold.told(self.alloc, self.editor.doc().list.len())
+    }
+
+    /// What changed was told: from here on it notes what changes after that. It takes no memory.
+    pub fn tell(&mut self)
+        ensures { self.new ≡ with_site (with_told self.old.site) self.old }
+    {
+        let count = self.editor.doc().list.len();
+        self.untold.clear(count);
+    }
+
     /// Performs a draft as a new entry; undone entries can't be redone then. It is refused as
     /// `Editor::perform` refuses, and an `Err` changes nothing.
     pub fn edit<L: Ledger>(&mut self, draft: &Draft, steps: &mut Steps<L>) -> Result<(), EditFault>
@@ -154,6 +171,7 @@ impl Site {
         // its type keeps that it is in normal form, which `ops` tells
         let _ops = draft.tx.ops();
         let entry = self.editor.perform(draft, steps)?;
+        self.untold.note(entry.txs.as_slice());
         let pushed = self.history.push(entry).is_ok();
         prove!(pushed);
         Ok(())
@@ -170,6 +188,7 @@ impl Site {
     {
         self.history.reserve()?;
         self.editor = editor;
+        self.untold.note(entry.txs.as_slice());
         let pushed = self.history.push(entry).is_ok();
         prove!(pushed);
         Ok(())
@@ -200,6 +219,7 @@ impl Site {
         if self.editor.revert(last, steps).is_err() {
             return Err(UndoFault::Memory);
         }
+        self.untold.note_back(last.txs.as_slice());
         let moved = self.history.move_down(parcel).is_ok();
         prove!(moved);
         Ok(())
@@ -226,6 +246,7 @@ impl Site {
         let Ok(entry) = self.editor.admit(undone, steps) else {
             return Err(RedoFault::Memory);
         };
+        self.untold.note(entry.txs.as_slice());
         let moved = self.history.move_up(entry).is_ok();
         prove!(moved);
         Ok(())
@@ -270,6 +291,7 @@ impl Site {
     {
         self.history.reserve()?;
         let entry = self.editor.admit(back, steps)?;
+        self.untold.note(entry.txs.as_slice());
         let adopted = self.history.push(entry).is_ok();
         prove!(adopted);
         Ok(())
@@ -316,18 +338,8 @@ impl Site {
         })
     }
 
-    /// How many entries it has pending.
-    fn pending_len(&self) -> Result<usize, Memory>
-        ensures { IfOk result (λ count. count ≡ length (pending self.now.site)) }
-    {
-        match self.sent.len().checked_add(self.history.done().len()) {
-            Some(count) => Ok(count),
-            None => Err(Memory),
-        }
-    }
-
     /// The same site with nothing undone.
-    fn copy<L: Ledger>(&self, steps: &mut Steps<L>) -> Result<Site, Memory>
+    pub(crate) fn copy<L: Ledger>(&self, steps: &mut Steps<L>) -> Result<Site, Memory>
         ensures ok { IfOk result (λ copy.
             copy ≡ with_site (record self.now.site { undone = [] }) self.now) }
         ensures counted { steps.old ≤ steps.new }
@@ -335,12 +347,14 @@ impl Site {
     {
         let sent = EntryList::copy_of(self.alloc, self.sent.as_slice())?;
         let done = EntryList::copy_of(self.alloc, self.history.done())?;
+        let untold = self.untold.copy(self.alloc)?;
         let editor = self.editor.copy(steps)?;
         let mut history = History::new(self.alloc);
         let _none = history.replace_done(done);
         Ok(Site {
             number: self.number,
             editor,
+            untold,
             seen: self.seen,
             sent: sent.into_vec(),
             history,
@@ -348,134 +362,5 @@ impl Site {
             in_flight: self.in_flight,
             alloc: self.alloc,
         })
-    }
-
-    /// Takes an entry of another site, and gives how many entries are still pending. An `Err`
-    /// changes nothing.
-    fn take_entry<L: Ledger>(
-        &mut self,
-        foreign: &Parcel,
-        steps: &mut Steps<L>,
-    ) -> Result<usize, Memory>
-        requires cites { ParcelCites foreign.now }
-        requires run { AllRun (parcel_by_value foreign.now) (ground_of self.old.site) }
-        ensures site { OnOk result (
-            self.new
-            ≡ with_site (take_entry (parcel_by_value foreign.now) self.old.site) self.old) }
-        ensures left { IfOk result (λ left. left ≡ length (pending self.new.site)) }
-        ensures kept { OnErr result (self.new ≡ self.old) }
-        ensures counted { steps.old ≤ steps.new }
-        ensures steps { steps.new
-            ≤ steps.old + steps_to_take (parcel_by_value foreign.now) self.old.site }
-    {
-        let Some(seen) = self.seen.checked_add(1) else {
-            return Err(Memory);
-        };
-        let own_sent = self.sent.as_slice();
-        let own_unsent = self.history.done();
-        let EntriesUnder { committed, kept } = entries_under(
-            self.alloc, foreign, own_sent, own_unsent,
-        )?;
-        let left = kept.as_slice().len();
-        let (sent, unsent) = parted(self.alloc, kept, own_sent.len())?;
-        let stored = admit_under(
-            &mut self.editor,
-            own_sent,
-            own_unsent,
-            left,
-            &committed,
-            steps,
-        )?;
-        self.seen = seen;
-        self.sent = renumbered(sent, stored);
-        let done = EntryList::from_vec(renumbered(unsent, stored));
-        let _gone = self.history.replace_done(done);
-        self.history.clear_undone();
-        Ok(left)
-    }
-
-    /// Takes entries of other sites, one after the other, and gives how many entries are still
-    /// pending. One is taken in place, and more on a copy, so that an `Err` changes nothing.
-    fn take_foreign<L: Ledger>(
-        &mut self,
-        entries: &Parcels,
-        steps: &mut Steps<L>,
-    ) -> Result<usize, Memory>
-        requires run { AllRun (flattened entries.now) (ground_of self.old.site) }
-        ensures site { OnOk result (
-            self.new ≡ with_site (take_foreign entries.now self.old.site) self.old) }
-        ensures left { IfOk result (λ left. left ≡ length (pending self.new.site)) }
-        ensures kept { OnErr result (self.new ≡ self.old) }
-        ensures counted { steps.old ≤ steps.new }
-        ensures steps { steps.new
-            ≤ steps.old
-            + (steps_of_feed entries.now self.old.site.replica.items
-            + steps_to_take_all entries.now self.old.site) }
-    {
-        let parcels = entries.as_slice();
-        if parcels.len() == 1 {
-            return self.take_entry(&parcels[0], steps);
-        }
-        let mut taken = self.copy(steps)?;
-        let mut left = taken.pending_len()?;
-        for parcel in parcels {
-            left = taken.take_entry(parcel, steps)?;
-        }
-        *self = taken;
-        Ok(left)
-    }
-
-    /// Takes the answer to what it sent: the entries that it still holds as sent are committed. An
-    /// `Err` changes nothing.
-    fn acknowledge(&mut self) -> Result<(), Memory>
-        ensures site { OnOk result (self.new ≡ with_site (take_ack self.old.site) self.old) }
-        ensures kept { OnErr result (self.new ≡ self.old) }
-    {
-        let Some(seen) = self.seen.checked_add(self.sent.as_slice().len()) else {
-            return Err(Memory);
-        };
-        self.seen = seen;
-        self.sent.clear();
-        self.history.clear_undone();
-        self.in_flight = None;
-        Ok(())
-    }
-
-    /// Takes the server's next message: entries of other sites, or the answer to its submission.
-    /// Nothing can be redone then.
-    ///
-    /// Each entry of another site is performed over the pending entries, and these are joined over
-    /// it. At the first conflict that entry and all later ones are taken back first, the last one
-    /// first, and dropped. These entries have to run one after the other from the confirmed list,
-    /// the list with the pending entries taken back. An answer has no condition.
-    ///
-    /// The only `Err` is want of memory, which is also the answer where a joined transaction would
-    /// be longer than a transaction may be. It changes nothing.
-    pub fn take<L: Ledger>(&mut self, feed: &Feed, steps: &mut Steps<L>) -> Result<Taken, Memory>
-        requires may { MayTake (feed_of feed.now) self.old.site }
-        ensures site { OnOk result (
-            self.new ≡ with_site (site_after (feed_of feed.now) self.old.site) self.old) }
-        ensures taken { IfOk result (λ taken.
-            taken ≡ taken_as (feed_of feed.now) self.old.site self.new.site) }
-        ensures kept { OnErr result (self.new ≡ self.old) }
-        ensures counted { steps.old ≤ steps.new }
-        ensures steps { steps.new ≤ steps.old + steps_of_take (feed_of feed.now) self.old.site }
-    {
-        match feed {
-            Feed::Foreign(entries) => {
-                let pending = self.pending_len()?;
-                let left = self.take_foreign(entries, steps)?;
-                Ok(Taken::Foreign {
-                    entries: entries.len(),
-                    dropped: pending.saturating_sub(left),
-                })
-            }
-            Feed::Ack(accepted) => {
-                self.acknowledge()?;
-                Ok(Taken::Acked {
-                    accepted: *accepted,
-                })
-            }
-        }
     }
 }

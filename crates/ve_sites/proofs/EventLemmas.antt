@@ -10,7 +10,7 @@ use Rattle.model_site.specs.Session.{Member, Session, joining, serve_next, take_
 use Rattle.model_site.specs.Site.{Site, edit, edit_unless, redo, revoke_entry, send, undo, with_entry, with_selection}
 use Rattle.ve_site.specs.Settled.{with_new_entry}
 use Rattle.ve_site.proofs.SettleLemmas.{settled_is}
-use Rattle.ve_sites.specs.Laws.{EditHappens, RedoHappens, RevokeHappens, SelectHappens, SendHappens, ServeHappens, SettlingHappens, TakeHappens, UndoHappens}
+use Rattle.ve_sites.specs.Laws.{EditHappens, RedoHappens, RevokeHappens, SelectHappens, SendHappens, ServeHappens, SettlingHappens, TakeHappens, TellHappens, UndoHappens}
 use Rattle.ve_sites.specs.Shared.{Shared, member_at, site_at, sites, with_site_at}
 
 -- there is a site at k, so what is said of it holds
@@ -31,6 +31,9 @@ settling_happens s k new e among by = at_the_site s k _ among ∙ ap (λ v. with
 
 pub select_happens : SelectHappens
 select_happens s k selection among = at_the_site s k _ among
+
+pub tell_happens : TellHappens
+tell_happens s k among = at_the_site s k _ among
 
 pub undo_happens : UndoHappens
 undo_happens s k site among h = at_the_site s k _ among ∙ ap (λ r. with_site_of k (member_at s k) r s.session) h

@@ -6,7 +6,7 @@ use Rattle.model_items.specs.declared.item.Item.{Item}
 use Rattle.model_change.specs.Transaction.{Transaction, InsertedApart, is_reduced}
 use Rattle.model_edit.specs.declared.selection.Selection.{Selection}
 use Rattle.model_site.specs.Session.{Member, SiteFeed, joining}
-use Rattle.model_site.specs.Site.{Site, Submission, edit, redo, revoke_entry, send, undo, with_entry, with_selection}
+use Rattle.model_site.specs.Site.{Site, Submission, edit, redo, revoke_entry, send, undo, with_entry, with_selection, with_told}
 use Rattle.model_site_law.specs.Sound.{AllMayRun}
 use Rattle.ve_server.specs.Serving.{Serving}
 use Rattle.ve_sites.specs.IsShared.{IsShared}
@@ -14,7 +14,7 @@ use Rattle.ve_sites.specs.Senders.{HasGone, Sender, at_site, member_of, shared_o
 use Rattle.ve_sites.specs.Shared.{Shared, member_at, site_at, sites, with_member_at, with_site_at}
 use Rattle.ve_sites.specs.Turns.{HasSent}
 use Rattle.ve_sites.proofs.MemberLemmas.{members_at}
-use Rattle.ve_sites.proofs.StayLemmas.{edit_entry, edit_may, member_is, member_put, performs, redoes, revokes, selects, sends_on, site_is, site_put, sites_count, undoes}
+use Rattle.ve_sites.proofs.StayLemmas.{edit_entry, edit_may, member_is, member_put, performs, redoes, revokes, selects, sends_on, site_is, site_put, sites_count, tells, undoes}
 
 -- ---- results
 
@@ -120,6 +120,9 @@ module _ {now : Shared} {values : List Value} {first : List Item} {server : Serv
 
   pub selected_stays : (t : Sender) (s : Selection) → t ≡ at_site (with_selection s m.site) m → Stays t
   selected_stays t s e = subst Stays (sym e) (selects values first server senders p.holds k m below p.is s)
+
+  pub told_stays : (t : Sender) → t ≡ at_site (with_told m.site) m → Stays t
+  told_stays t e = subst Stays (sym e) (tells values first server senders p.holds k m below p.is)
 
   pub revoked_stays : (t : Sender) (i : ℕ) → i < m.site.seen → revoke_entry server.committed i m.site ≡ Ok t.site → t ≡ at_site t.site m → Stays t
   revoked_stays t i seen done same = subst Stays (sym same) (revokes values first server senders p.holds k m below p.is i t.site seen done)

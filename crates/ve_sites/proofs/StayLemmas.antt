@@ -6,10 +6,10 @@ use Rattle.model_items.specs.declared.item.Item.{Item}
 use Rattle.model_change.specs.Transaction.{Transaction, InsertedApart, is_reduced}
 use Rattle.model_edit.specs.declared.selection.Selection.{Selection}
 use Rattle.model_site.specs.Causes.{EditCause}
-use Rattle.model_site.specs.Events.{Perform, Select, Undo, Redo, Revoke, Send, at_member, happens, with_sent, with_site, with_site_of}
+use Rattle.model_site.specs.Events.{Perform, Select, Undo, Redo, Revoke, Send, Tell, at_member, happens, with_sent, with_site, with_site_of}
 use Rattle.model_site.specs.Refused.{edit_cause}
 use Rattle.model_site.specs.Session.{Member, Session, SiteFeed, joining, with_member}
-use Rattle.model_site.specs.Site.{Site, Submission, edit, edit_unless, redo, revoke_entry, send, undo, with_entry, with_selection}
+use Rattle.model_site.specs.Site.{Site, Submission, edit, edit_unless, redo, revoke_entry, send, undo, with_entry, with_selection, with_told}
 use Rattle.model_site_law.specs.MayHappen.{MayHappen}
 use Rattle.model_site_law.specs.Protocol.{SessionHolds}
 use Rattle.model_site_law.specs.Sound.{AllMayRun, MayRun}
@@ -93,6 +93,11 @@ module _ (values : List Value) (first : List Item) (server : Serving) (senders :
     selects s = stays (at_site (with_selection s m.site) m) refl (
         subst SessionHolds (ap (λ o. at_member w o (λ n. with_site k n (with_selection s n.site) w)) found)
         (event_holds w (Select k s) h.holds tt))
+
+    pub tells : IsShared values first server (set senders k (at_site (with_told m.site) m))
+    tells = stays (at_site (with_told m.site) m) refl (
+        subst SessionHolds (ap (λ o. at_member w o (λ n. with_site k n (with_told n.site) w)) found)
+        (event_holds w (Tell k) h.holds tt))
 
     pub undoes : (x : Site) → undo m.site ≡ Ok x → IsShared values first server (set senders k (at_site x m))
     undoes x done = stays (at_site x m) refl (

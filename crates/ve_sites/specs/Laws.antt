@@ -2,10 +2,10 @@
 use Rattle.std.specs.Prelude.{◌≡◌, ◌<◌, ℕ, [], ◌∷◌, List, Option, Some, None, Ok}
 use Rattle.model_change.specs.Transaction.{Transaction}
 use Rattle.model_edit.specs.declared.selection.Selection.{Selection}
-use Rattle.model_site.specs.Events.{happens, Perform, Redo, Revoke, Select, Send, Serve, Take, Undo}
+use Rattle.model_site.specs.Events.{happens, Perform, Redo, Revoke, Select, Send, Serve, Take, Tell, Undo}
 use Rattle.model_site.specs.Replica.{Replica}
 use Rattle.model_site.specs.Session.{Session, serve_next, take_next}
-use Rattle.model_site.specs.Site.{Site, edit, redo, revoke_entry, undo, with_selection}
+use Rattle.model_site.specs.Site.{Site, edit, redo, revoke_entry, undo, with_selection, with_told}
 use Rattle.model_site.specs.declared.served.Served.{Served}
 use Rattle.model_site.specs.declared.taken.Taken.{Taken}
 use Rattle.ve_site.specs.Settled.{with_new_entry, Settles}
@@ -25,6 +25,11 @@ SettlingHappens = (s : Shared) (k : ℕ) (new : Replica) (e : Entry) → k < sit
 abbrev pub SelectHappens : Type 0
 SelectHappens = (s : Shared) (k : ℕ) (selection : Selection) → k < sites s →
     happens s.session (Select k selection) ≡ (with_site_at k (with_selection selection (site_at s k)) s).session
+
+-- what changed is told
+abbrev pub TellHappens : Type 0
+TellHappens = (s : Shared) (k : ℕ) → k < sites s →
+    happens s.session (Tell k) ≡ (with_site_at k (with_told (site_at s k)) s).session
 
 -- undo, redo and revoke
 abbrev pub UndoHappens : Type 0

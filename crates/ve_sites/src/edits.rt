@@ -3,7 +3,7 @@ ghost use Rattle.std.specs.Prelude.{◌≡◌, ◌≤◌, ◌<◌, ◌+◌, ◌�
 ghost use Rattle.model_change.specs.Replay.{revoke};
 ghost use Rattle.model_change.specs.Transaction.{InsertedApart};
 ghost use Rattle.model_site.specs.Refused.{edit_cause};
-ghost use Rattle.model_site.specs.Site.{edit, entries_of, redo, revoke_entry, undo, with_selection};
+ghost use Rattle.model_site.specs.Site.{edit, entries_of, redo, revoke_entry, undo, with_selection, with_told};
 ghost use Rattle.model_site_law.specs.SelectionLaws.{StandsIn};
 ghost use Rattle.ve_editor.specs.Counted.{steps_after, steps_over};
 ghost use Rattle.ve_editor.specs.Edited.{IsDraftOf, drafted};
@@ -128,6 +128,15 @@ impl Sites {
             ≡ with_site_at k (with_selection selection (site_at self.old k)) self.old }
     {
         self.members[k].select(selection);
+    }
+
+    /// What changed at site `k` was told: from here on it notes what changes after that. It takes
+    /// no memory.
+    pub fn tell(&mut self, k: usize)
+        requires site { k < sites self.old }
+        ensures { self.new ≡ with_site_at k (with_told (site_at self.old k)) self.old }
+    {
+        self.members[k].tell();
     }
 
     /// Takes back, at site `k`, the committed entry `i` under all later entries that the site

@@ -1,5 +1,5 @@
 // Laws of a session's turns: each is the contract of a function that does nothing.
-ghost use Rattle.ve_sites.specs.Laws.{EditHappens, RedoHappens, RevokeHappens, SelectHappens, SendHappens, ServeHappens, SettlingHappens, TakeHappens, UndoHappens};
+ghost use Rattle.ve_sites.specs.Laws.{EditHappens, RedoHappens, RevokeHappens, SelectHappens, SendHappens, ServeHappens, SettlingHappens, TakeHappens, TellHappens, UndoHappens};
 
 /// The promise of each call of `Sites` is the model's event of its name. Of an edit, and of a
 /// changed copy that takes the place of a site's editor, it is the event that performs these
@@ -8,6 +8,7 @@ pub fn turns_are_events()
     ensures edit { EditHappens }
     ensures settle { SettlingHappens }
     ensures select { SelectHappens }
+    ensures tell { TellHappens }
     ensures undo { UndoHappens }
     ensures redo { RedoHappens }
     ensures revoke { RevokeHappens }

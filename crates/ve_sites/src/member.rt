@@ -4,7 +4,7 @@ ghost use Rattle.model_change.specs.Replay.{AllRun};
 ghost use Rattle.model_change.specs.Transaction.{InsertedApart};
 ghost use Rattle.model_site.specs.Refused.{edit_cause};
 ghost use Rattle.model_site.specs.Session.{site_after, taken_as};
-ghost use Rattle.model_site.specs.Site.{edit, redo, send, undo, with_entry, with_selection};
+ghost use Rattle.model_site.specs.Site.{edit, redo, send, undo, with_entry, with_selection, with_told};
 ghost use Rattle.model_site_law.specs.SelectionLaws.{StandsIn};
 ghost use Rattle.ve_editor.specs.Counted.{steps_after, steps_over};
 ghost use Rattle.ve_editor.specs.Edited.{IsDraftOf, drafted};
@@ -151,6 +151,13 @@ impl Member {
         ensures { self.new ≡ at_site (with_selection selection self.old.site) self.old }
     {
         self.site.select(selection);
+    }
+
+    /// As `Site::tell`.
+    pub fn tell(&mut self)
+        ensures { self.new ≡ at_site (with_told self.old.site) self.old }
+    {
+        self.site.tell();
     }
 
     /// Has the site send, and keeps what it sent behind what waits. It gives how many entries these

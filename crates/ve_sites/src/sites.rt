@@ -4,7 +4,7 @@ ghost use Rattle.model_items.specs.Plain.{plain_list, CitesWell};
 ghost use Rattle.model_edit.specs.Translate.{between};
 ghost use Rattle.model_site.specs.Replica.{opened_with};
 ghost use Rattle.model_site.specs.Session.{started};
-ghost use Rattle.model_site.specs.Site.{starting};
+ghost use Rattle.model_site.specs.Site.{starting, told};
 ghost use Rattle.model_site_law.specs.Sound.{Sound};
 ghost use Rattle.ve_editor.specs.Page.{page_of};
 ghost use Rattle.ve_tree.specs.TreeOf.{most_steps};
@@ -12,6 +12,7 @@ ghost use Rattle.ve_sites.specs.Senders.{first_senders};
 ghost use Rattle.ve_sites.specs.Shared.{site_at, sites as sites_of};
 
 use crate::member::Member;
+use model_site::Patch;
 use std::alloc::Global;
 use std::marker::Model;
 use std::sync::ledger::Ledger;
@@ -68,7 +69,7 @@ fn begin<L: Ledger>(
     let list = list.copy(alloc)?;
     let values = values.copy(alloc)?;
     let editor = Editor::new(alloc, list, values, steps)?;
-    Ok(Member::new(alloc, Site::new(alloc, number, editor)))
+    Ok(Member::new(alloc, Site::new(alloc, number, editor)?))
 }
 
 /// So many sites, each of which begins with a copy of the list and of its values.
@@ -150,5 +151,13 @@ impl Sites {
         ensures { result.now.site ≡ site_at self.now k }
     {
         self.members[k].site()
+    }
+
+    /// What site `k` has not told yet of how its list changed, as `Site::told` says.
+    pub fn told(&self, k: usize) -> Result<Vec<Patch>, Memory>
+        requires site { k < sites_of self.now }
+        ensures { IfOk result (λ patches. patches.items ≡ told (site_at self.now k)) }
+    {
+        self.members[k].site().told()
     }
 }

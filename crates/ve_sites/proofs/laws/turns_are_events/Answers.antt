@@ -10,6 +10,9 @@ returns-clause-settle c = law.settling_happens
 pub returns-clause-select : goal.returns-clause-select
 returns-clause-select c = law.select_happens
 
+pub returns-clause-tell : goal.returns-clause-tell
+returns-clause-tell c = law.tell_happens
+
 pub returns-clause-undo : goal.returns-clause-undo
 returns-clause-undo c = law.undo_happens
 

@@ -34,7 +34,7 @@ pub returns-clause-ok : goal.returns-clause-ok
 returns-clause-ok g c =
     let v = c.args.values.now in
     let copied = ap (λ vs. page_of vs c.in_ok-list.list.items (between 0 0)) c.in_ok-values.ensures ∙ ap (λ is. page_of v is (between 0 0)) c.in_ok-list.ensures.items in
-    c.new-3.ensures ∙ (ap (λ (n : Numbered). record { number = n.number; site = n.site; submissions = [] }) c.new-2.ensures
+    c.new-3.ensures ∙ (ap (λ (n : Numbered). record { number = n.number; site = n.site; submissions = [] }) c.in_ok-new.ensures
     ∙ ap (λ (r : Replica). record { number = c.args.number; site = starting r; submissions = [] }) (c.in_ok-editor.ensures.ok ∙ copied))
 
 pub returns-in_err-editor-clause-steps : goal.returns-in_err-editor-clause-steps

@@ -10,13 +10,13 @@ pub parcels_of-requires : goal.parcels_of-requires
 parcels_of-requires c =
     let s = c.self.inside in
     subst (λ store. All (EntryCites store) c.as_slice.result.now) (sym c.doc.ensures.store)
-    (subst (All (EntryCites s.editor.store)) (sym c.as_slice.ensures.value) (sent_cite s.editor s.seen s.sent.items s.history s.shared s.in_flight c.self.invariant))
+    (subst (All (EntryCites s.editor.store)) (sym c.as_slice.ensures.value) (sent_cite s.editor s.untold s.seen s.sent.items s.history s.shared s.in_flight c.self.invariant))
 
 pub parcels_of-requires-2 : goal.parcels_of-requires-2
 parcels_of-requires-2 c =
     let s = c.self.inside in
     subst (λ store. All (EntryCites store) c.done.result.now) (sym c.doc.ensures.store)
-    (subst (All (EntryCites s.editor.store)) (sym c.done.ensures) (unsent_cite s.editor s.seen s.sent.items s.history s.shared s.in_flight c.self.invariant))
+    (subst (All (EntryCites s.editor.store)) (sym c.done.ensures) (unsent_cite s.editor s.untold s.seen s.sent.items s.history s.shared s.in_flight c.self.invariant))
 
 pub returns : goal.returns
 returns c =
@@ -26,5 +26,5 @@ returns c =
     let second = c.in_ok-parcels_of.ensures ∙ ap (λ store. parcels (map (entry_by_value store) c.done.result.now)) c.doc.ensures.store
     ∙ ap (λ es. parcels (map (entry_by_value s.editor.store) es)) c.done.ensures in
     c.in_ok-append.ensures.ok
-    ∙ pending_parcels s.editor s.seen s.sent.items s.history s.shared s.in_flight c.self.invariant c.in_ok-entries.entries c.in_ok-parcels_of.field-0 first second
+    ∙ pending_parcels s.editor s.untold s.seen s.sent.items s.history s.shared s.in_flight c.self.invariant c.in_ok-entries.entries c.in_ok-parcels_of.field-0 first second
     ∙ ap (λ (v : Numbered). parcels (pending v.site)) c.self.view_is

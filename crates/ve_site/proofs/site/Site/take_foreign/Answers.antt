@@ -25,7 +25,7 @@ pub loop-parcel-init : goal.loop-parcel-init
 loop-parcel-init g c =
     let parcels = c.as_slice-parcels.result.now in
     let run = subst (λ l. AllRun (flattened l) (ground_of c.args.self.now.site)) (sym c.as_slice-parcels.ensures.values) c.requires.run in
-    let stands = subst (λ (v : Numbered). Stands v.site) c.taken.view_is c.taken.invariant.stands in
+    let stands = subst (λ (v : Numbered). Stands v.site) c.taken.view_is (c.taken.invariant.stands c.taken.inside.untold) in
     taking_begun c.args.self.now c.in_ok-taken.taken parcels c.in_ok-left.left c.args.steps.now c.copy.new.steps stands run c.in_ok-taken.ensures.ok c.in_ok-left.ensures
     c.copy.ensures.counted c.copy.ensures.steps
 
