@@ -5,7 +5,6 @@ use Rattle.model_site.specs.Replica.{Replica}
 use Rattle.model_site.specs.Site.{Site, with_entry}
 use Rattle.model_site.specs.Untold.{Untold, passed}
 use Rattle.ve_tx.specs.declared.entry.Entry.{Entry}
-use Rattle.ve_editor.specs.Edited.{entry_by_value}
 use Rattle.ve_site.specs.Settled.{with_new_entry, SettledIsPerformed, Settles}
 use Rattle.ve_site.proofs.PatchLemmas.{passed_filled}
 

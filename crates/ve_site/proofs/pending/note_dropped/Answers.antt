@@ -1,4 +1,4 @@
-use Rattle.std.proofs.Common.{◌≡◌, ◌≤◌, ◌-◌, List, length, take, drop, min, ap, ◌∙◌, arith}
+use Rattle.std.proofs.Common.{◌-◌, List, length, take, drop, ap, ◌∙◌, arith}
 use Rattle.std.proofs.lemmas.List.{length-drop, take_all}
 use Rattle.ve_tx.specs.declared.entry.Entry.{Entry}
 use Rattle.ve_site.proofs.NotedLemmas.{both_undone}

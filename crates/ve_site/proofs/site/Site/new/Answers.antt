@@ -1,4 +1,4 @@
-use Rattle.std.proofs.Common.{◌≡◌, ◌∙◌, ap, subst}
+use Rattle.std.proofs.Common.{◌∙◌, ap, subst}
 use Rattle.model_change.specs.Store.{cited}
 use Rattle.model_site.specs.Site.{Site}
 use Rattle.model_site.specs.Untold.{all_untold}

@@ -1,4 +1,4 @@
-use Rattle.std.proofs.Common.{◌≡◌, ◌∙◌, ap}
+use Rattle.std.proofs.Common.{◌∙◌, ap}
 use Rattle.model_site.specs.Site.{with_told}
 use Rattle.model_site.specs.Untold.{Untold, none_untold}
 use Rattle.ve_site.specs.Numbered.{Numbered, site_of, with_site}

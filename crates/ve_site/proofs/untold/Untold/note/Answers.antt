@@ -1,6 +1,6 @@
-use Rattle.std.proofs.Common.{◌≡◌, ◌≤◌, ◌+◌, suc, List, length, drop, ap, ◌∙◌, sym, arith}
+use Rattle.std.proofs.Common.{◌+◌, List, drop, ap, ◌∙◌, sym, arith}
 use Rattle.std.proofs.lemmas.List.{drop_all}
-use Rattle.model_site.specs.Untold.{max_patches, with_patches}
+use Rattle.model_site.specs.Untold.{with_patches}
 use Rattle.ve_tx.specs.Operation.{Operation}
 use Rattle.ve_site.specs.Patches.{all_changed, changed_by_all}
 use Rattle.ve_site.proofs.PatchLemmas.{changed_alike, next_is, ops_within, stays_within, tx_noted, with_none}

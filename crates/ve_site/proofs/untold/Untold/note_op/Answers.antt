@@ -1,4 +1,4 @@
-use Rattle.std.proofs.Common.{◌≡◌, ◌≤◌, ◌+◌, suc, List, length, sym, ap, ◌∙◌, subst}
+use Rattle.std.proofs.Common.{◌≤◌, ◌+◌, suc, List, length, sym, ap, ◌∙◌, subst}
 use Rattle.model_items.specs.declared.item.Item.{Item}
 use Rattle.model_site.specs.Untold.{Untold, max_patches, with_patches}
 use Rattle.ve_tx.specs.declared.op.Op.{Op}

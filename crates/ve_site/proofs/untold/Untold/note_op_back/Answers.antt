@@ -1,4 +1,4 @@
-use Rattle.std.proofs.Common.{◌≡◌, ◌≤◌, suc, length, sym, ap, ◌∙◌, subst}
+use Rattle.std.proofs.Common.{◌≤◌, suc, length, sym, ap, ◌∙◌, subst}
 use Rattle.model_site.specs.Untold.{Untold, max_patches, with_patches}
 use Rattle.ve_tx.specs.Turned.{op_back}
 use Rattle.ve_tx.specs.declared.op.Op.{Op}

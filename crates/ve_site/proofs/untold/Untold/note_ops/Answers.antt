@@ -1,9 +1,8 @@
-use Rattle.std.proofs.Common.{◌≡◌, ◌≤◌, ◌+◌, suc, List, length, drop, ap, ◌∙◌, sym, subst, arith}
+use Rattle.std.proofs.Common.{◌+◌, List, drop, ap, ◌∙◌, sym, arith}
 use Rattle.std.proofs.lemmas.List.{drop_all}
-use Rattle.model_site.specs.Untold.{max_patches, with_patches}
-use Rattle.ve_tx.specs.Turned.{op_back}
+use Rattle.model_site.specs.Untold.{with_patches}
 use Rattle.ve_tx.specs.declared.op.Op.{Op}
-use Rattle.ve_site.specs.Patches.{all_changed, all_turned, changed_at}
+use Rattle.ve_site.specs.Patches.{all_changed, changed_at}
 use Rattle.ve_site.proofs.PatchLemmas.{next_is, op_noted, room_left, stays_within, with_none}
 use Rattle.ve_site.proofs.untold.Untold.note_ops.Goals as goal
 

@@ -1,7 +1,7 @@
 use Rattle.std.proofs.Common.{◌≡◌, ◌≤◌, ◌+◌, ◌^◌, suc, length, drop}
 use Rattle.model_site.specs.Untold.{max_patches, with_patches}
 use Rattle.ve_tx.specs.Normal.{total_size}
-use Rattle.ve_site.specs.Patches.{all_changed, all_turned}
+use Rattle.ve_site.specs.Patches.{all_changed}
 use Rattle.ve_site.proofs.untold.Untold.note_ops.Given as goal
 
 abbrev pub invariant-loop-op : goal.invariant-loop-op
