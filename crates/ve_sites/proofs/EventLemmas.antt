@@ -1,17 +1,15 @@
 -- Turns are events.
-use Rattle.std.proofs.Common.{◌≡◌, ◌<◌, ℕ, [], ◌∷◌, List, Option, Some, None, Result, Ok, Err, refl, sym, ap, ◌∙◌, slice_get}
+use Rattle.std.proofs.Common.{◌≡◌, ◌<◌, ℕ, [], ◌∷◌, Option, Some, None, Ok, sym, ap, ◌∙◌, slice_get}
 use Rattle.std.proofs.lemmas.Option.{slice_get-get_or}
 use Rattle.model_change.specs.Transaction.{Transaction}
 use Rattle.model_site.specs.Causes.{EditCause}
 use Rattle.model_site.specs.Events.{at_member, with_site, with_site_of, with_sent, after_turn}
 use Rattle.model_site.specs.Refused.{edit_cause}
-use Rattle.model_site.specs.Replica.{Replica}
-use Rattle.model_site.specs.Session.{Member, Session, joining, serve_next, take_next}
-use Rattle.model_site.specs.Site.{Site, edit, edit_unless, redo, revoke_entry, send, undo, with_entry, with_selection}
-use Rattle.ve_site.specs.Settled.{with_new_entry}
+use Rattle.model_site.specs.Session.{Member, Session, joining}
+use Rattle.model_site.specs.Site.{Site, edit_unless, with_entry}
 use Rattle.ve_site.proofs.SettleLemmas.{settled_is}
 use Rattle.ve_sites.specs.Laws.{EditHappens, RedoHappens, RevokeHappens, SelectHappens, SendHappens, ServeHappens, SettlingHappens, TakeHappens, TellHappens, UndoHappens}
-use Rattle.ve_sites.specs.Shared.{Shared, member_at, site_at, sites, with_site_at}
+use Rattle.ve_sites.specs.Shared.{Shared, member_at, site_at, sites}
 
 -- there is a site at k, so what is said of it holds
 at_the_site : (s : Shared) (k : ℕ) (f : Member → Session) → k < sites s → at_member s.session (slice_get s.session.members k) f ≡ f (member_at s k)

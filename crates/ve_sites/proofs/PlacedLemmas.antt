@@ -1,12 +1,12 @@
 -- A session in which one site is changed by a call.
-use Rattle.std.proofs.Common.{◌≡◌, ◌<◌, ℕ, zero, suc, List, [], ◌∷◌, ◌++◌, length, set, get_or, true, Result, Ok, Err, OnOk, OnErr, IfOk, refl, sym, ap, ◌∙◌, subst, arith}
+use Rattle.std.proofs.Common.{◌≡◌, ◌<◌, ℕ, zero, suc, List, [], ◌∷◌, ◌++◌, length, set, get_or, true, Result, Ok, Err, OnOk, OnErr, IfOk, sym, ap, ◌∙◌, subst, arith}
 use Rattle.std.proofs.lemmas.List.{get_or-set_same, length-set, set-get_or}
 use Rattle.ve_base.specs.declared.value.Value.{Value}
 use Rattle.model_items.specs.declared.item.Item.{Item}
 use Rattle.model_change.specs.Transaction.{Transaction, InsertedApart, is_reduced}
 use Rattle.model_edit.specs.declared.selection.Selection.{Selection}
 use Rattle.model_site.specs.Session.{Member, SiteFeed, joining}
-use Rattle.model_site.specs.Site.{Site, Submission, edit, redo, revoke_entry, send, undo, with_entry, with_selection, with_told}
+use Rattle.model_site.specs.Site.{Site, edit, redo, revoke_entry, send, undo, with_entry, with_selection, with_told}
 use Rattle.model_site_law.specs.Sound.{AllMayRun}
 use Rattle.ve_server.specs.Serving.{Serving}
 use Rattle.ve_sites.specs.IsShared.{IsShared}
@@ -14,7 +14,7 @@ use Rattle.ve_sites.specs.Senders.{HasGone, Sender, at_site, member_of, shared_o
 use Rattle.ve_sites.specs.Shared.{Shared, member_at, site_at, sites, with_member_at, with_site_at}
 use Rattle.ve_sites.specs.Turns.{HasSent}
 use Rattle.ve_sites.proofs.MemberLemmas.{members_at}
-use Rattle.ve_sites.proofs.StayLemmas.{edit_entry, edit_may, member_is, member_put, performs, redoes, revokes, selects, sends_on, site_is, site_put, sites_count, tells, undoes}
+use Rattle.ve_sites.proofs.StayLemmas.{edit_entry, edit_may, member_is, member_put, performs, redoes, revokes, selects, sends_on, site_put, sites_count, tells, undoes}
 
 -- ---- results
 

@@ -1,23 +1,22 @@
 -- The invariant of a session's fields, after each event of one site.
-use Rattle.std.proofs.Common.{◌≡◌, ◌<◌, ℕ, List, [], ◌∷◌, ◌++◌, length, set, get_or, slice_get, Option, Some, None, Result, Ok, Err, true, refl, sym, ap, ◌∙◌, subst, arith}
+use Rattle.std.proofs.Common.{◌≡◌, ◌<◌, ℕ, List, [], ◌∷◌, ◌++◌, length, set, get_or, slice_get, Option, Some, None, Ok, true, refl, sym, ap, ◌∙◌, subst}
 use Rattle.std.proofs.lemmas.List.{length-set}
 use Rattle.ve_base.specs.declared.value.Value.{Value}
 use Rattle.model_items.specs.declared.item.Item.{Item}
 use Rattle.model_change.specs.Transaction.{Transaction, InsertedApart, is_reduced}
 use Rattle.model_edit.specs.declared.selection.Selection.{Selection}
 use Rattle.model_site.specs.Causes.{EditCause}
-use Rattle.model_site.specs.Events.{Perform, Select, Undo, Redo, Revoke, Send, Tell, at_member, happens, with_sent, with_site, with_site_of}
+use Rattle.model_site.specs.Events.{Perform, Select, Undo, Redo, Revoke, Send, Tell, at_member, with_sent, with_site, with_site_of}
 use Rattle.model_site.specs.Refused.{edit_cause}
-use Rattle.model_site.specs.Session.{Member, Session, SiteFeed, joining, with_member}
+use Rattle.model_site.specs.Session.{Member, Session, joining, with_member}
 use Rattle.model_site.specs.Site.{Site, Submission, edit, edit_unless, redo, revoke_entry, send, undo, with_entry, with_selection, with_told}
-use Rattle.model_site_law.specs.MayHappen.{MayHappen}
 use Rattle.model_site_law.specs.Protocol.{SessionHolds}
-use Rattle.model_site_law.specs.Sound.{AllMayRun, MayRun}
+use Rattle.model_site_law.specs.Sound.{AllMayRun}
 use Rattle.model_site_law.proofs.EditLemmas.{edit_may_run}
 use Rattle.model_site_law.proofs.ServeLemmas.{event_holds}
 use Rattle.ve_server.specs.Serving.{Serving}
 use Rattle.ve_sites.specs.IsShared.{IsShared}
-use Rattle.ve_sites.specs.Senders.{Sender, at_site, member_of, members_of, session_of, shared_of}
+use Rattle.ve_sites.specs.Senders.{Sender, at_site, member_of, session_of, shared_of}
 use Rattle.ve_sites.specs.Shared.{Shared, member_at, site_at, sites, with_member_at, with_site_at}
 use Rattle.ve_sites.proofs.MemberLemmas.{members_at, members_count, members_found, members_put, numbered_put}
 

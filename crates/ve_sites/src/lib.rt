@@ -24,6 +24,8 @@ mod queues;
 mod sites;
 
 pub use laws::turns_are_events;
-pub use model_site::{EditFault, MAX_PATCHES, Patch, RedoFault, SendFault, Served, Taken, UndoFault};
+pub use model_site::{
+    EditFault, MAX_PATCHES, Patch, RedoFault, SendFault, Served, Taken, UndoFault,
+};
 pub use sites::Sites;
 pub use ve_peer_undo::RevokeFault;

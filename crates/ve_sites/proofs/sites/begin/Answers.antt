@@ -1,4 +1,4 @@
-use Rattle.std.proofs.Common.{◌≡◌, ◌≤◌, ◌+◌, [], sym, ap, ◌∙◌, subst}
+use Rattle.std.proofs.Common.{◌≤◌, ◌+◌, [], sym, ap, ◌∙◌, subst}
 use Rattle.model_edit.specs.Translate.{between}
 use Rattle.model_items.specs.Plain.{plain_list}
 use Rattle.model_site.specs.Replica.{Replica}
