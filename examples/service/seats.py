@@ -20,7 +20,7 @@ from typing import Any
 SITES = 8
 # Commands that change nothing, so that they aren't in a log, and those that a client may have put there. The others are
 # the service's: `open`, and `serve`, which follows each accepted `send` at once.
-READS = frozenset("html data tree at refs caret grid".split())
+READS = frozenset("html data tree at near refs caret grid".split())
 CHANGES = frozenset(
     "text remove split mark unmark wrap convert attr row_in row_out col_in col_out indent outdent insert apply batch undo redo "
     "select move type erase send take revoke".split())
