@@ -27,6 +27,7 @@
 //! conflict leaves them half moved, and those joined up to it have to stand.
 #![tactic(auto)]
 
+mod all_under;
 mod entries;
 mod fault;
 mod join;
@@ -40,6 +41,7 @@ mod totals;
 mod under;
 mod until;
 
+pub use all_under::{EntriesUnderAll, entries_under_all};
 pub use entries::entry_over_list;
 pub use fault::RebaseFault;
 pub use join::{conflict, pair};
