@@ -35,7 +35,7 @@ taking_all (entry ∷ entries) s = taking_one entry s ++ taking_all entries (tak
 -- Those of a feed, and of one copy of the page on which they are made, unless it is one entry that
 -- makes one transaction.
 abbrev pub steps_of_feed : List Parcel → Site → ℕ
-steps_of_feed [] s = most_steps s.replica.items
+steps_of_feed [] s = 0
 steps_of_feed (entry ∷ []) s = steps_over (taking_one entry s) s.replica.items
 steps_of_feed (entry ∷ other ∷ entries) s = most_steps s.replica.items + steps_after (taking_all (entry ∷ other ∷ entries) s) s.replica.items
 
