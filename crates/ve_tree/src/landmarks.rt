@@ -216,9 +216,9 @@ impl Landmarks {
         let high = low.max(ends_before(&self.gaps, to.max(1)));
         cut_out(&mut self.nodes, low, high);
         close_up(&mut self.gaps, low, high, to - from, len);
-        if low < high {
-            rank_from(&mut self.ranks, &self.nodes, low);
-        }
+        // where none goes, those behind have the numbers that they had
+        let first = if low < high { low } else { self.nodes.len() };
+        rank_from(&mut self.ranks, &self.nodes, first);
         low.saturating_sub(1)
     }
 }
