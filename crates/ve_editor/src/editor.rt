@@ -85,18 +85,21 @@ impl Editor {
         })
     }
 
-    /// An editor of equal list, store and selection. Its tree is built anew, in at most as many
-    /// steps as `new` may take.
+    /// An editor of equal list, store and selection. Its tree is copied node by node. That links
+    /// nothing anew, but the clause leaves it the steps of a tree that is built: so a body that
+    /// copies the page where it need not exceeds its own bound.
     pub fn copy<L: Ledger>(&self, steps: &mut Steps<L>) -> Result<Editor, Memory>
         ensures ok { IfOk result (λ copy. copy ≡ self.now) }
         ensures counted { steps.old ≤ steps.new }
         ensures steps { steps.new ≤ steps.old + most_steps self.now.items }
     {
-        let list = self.list.copy(self.alloc)?;
-        let store = self.store.copy(self.alloc)?;
-        let mut copy = Editor::new(self.alloc, list, store, steps)?;
-        copy.selection = self.selection;
-        Ok(copy)
+        Ok(Editor {
+            list: self.list.copy(self.alloc)?,
+            store: self.store.copy(self.alloc)?,
+            tree: self.tree.copy(self.alloc)?,
+            selection: self.selection,
+            alloc: self.alloc,
+        })
     }
 
     /// Lends list, tree and store, to be read.
