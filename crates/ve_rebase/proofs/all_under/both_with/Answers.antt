@@ -36,8 +36,8 @@ entry_with-requires-clause-kept c =
     kept_left both c.loop-i.i c.args.all.now c.loop-i.left.now c.loop-i.made c.entry_in-entry.result.now (length c.as_slice-size.result.now) c.loop-i.invariant within
     (found both c.loop-i.i c.entry_in-entry.result.now c.entry_in-entry.ensures) (ap length c.as_slice-size.ensures)
 
-pub slice_bounds-left-size : goal.slice_bounds-left-size
-slice_bounds-left-size c =
+pub slice_bounds-left-count : goal.slice_bounds-left-count
+slice_bounds-left-count c =
     let both = c.args.sent.now ++ c.args.unsent.now in
     let size = length-append c.args.sent.now c.args.unsent.now in
     let within : c.loop-i.i < length both = omega (arith, size, c.in-Some.ensures.1, c.loop-i-test.true) in

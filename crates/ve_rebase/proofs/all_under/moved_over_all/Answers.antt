@@ -1,9 +1,4 @@
-use Rattle.std.proofs.Common.{◌+◌, List, sym, subst}
-use Rattle.std.proofs.Common.{map}
-use Rattle.ve_base.specs.declared.value.Value.{Value}
-use Rattle.model_change.specs.Join.{join_list}
-use Rattle.ve_tx.specs.ByValue.{parcel_by_value}
-use Rattle.ve_rebase.specs.Lists.{IsRefusedAs}
+use Rattle.std.proofs.Common.{◌+◌, sym, subst}
 use Rattle.ve_rebase.specs.Moved.{WereMoved, IsRefusedMoved}
 use Rattle.ve_rebase.proofs.MovedLemmas.{MovedSoFar, moved_begun, moved_meets, moved_next, moved_clash, moved_done}
 use Rattle.ve_rebase.proofs.all_under.moved_over_all.Goals as goal
