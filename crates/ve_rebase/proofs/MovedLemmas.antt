@@ -22,7 +22,7 @@ use Rattle.ve_rebase.specs.Lists.{RunOnLength, RunFromOneLength, IsRefusedAs}
 use Rattle.ve_rebase.specs.Shifted.{IsShifted, FollowFrom, shifted_by_value, all_by_value, operations, StartTogether, AreRows, AreWritten}
 use Rattle.ve_rebase.specs.Until.{length_given}
 use Rattle.ve_rebase.specs.Under.{all_over, over_values, AreAllUnder}
-use Rattle.ve_rebase.specs.Moved.{all_operations, AreBegun, AreMovedOver, AreWrittenInto, IsMovedOver, IsRefusedMoved, IsWrittenInto, MeetMoved, WereMoved}
+use Rattle.ve_rebase.specs.Moved.{all_operations, AreBegun, AreMovedOver, AreWrittenInto, IsMovedOver, IsMoveRefused, IsWrittenInto, MeetMoved, WereMoved}
 use Rattle.ve_rebase.proofs.RowLemmas.{length-map-same}
 use Rattle.ve_rebase.proofs.WrittenLemmas.{written_alike, written_mine, follows}
 use Rattle.ve_rebase.proofs.EntryLemmas.{here, same_outline, GatheredSoFar, gathered_more, PartedSoFar, parted_begun, part_within, part_kept, part_shifted, parted_next, parted_done}
@@ -70,7 +70,7 @@ module _ (foreign : Parcel) (all mine : List Shifted) (written : AreWritten fore
       }
 
   pub one_refused : (why : RebaseFault) →
-      ((values : List (List Value)) (others : List Value) → IsRefusedAs (join_list (all_by_value values all) (map (shifted_by_value others) mine)) why) → IsRefusedMoved foreign mine why
+      ((values : List (List Value)) (others : List Value) → IsRefusedAs (join_list (all_by_value values all) (map (shifted_by_value others) mine)) why) → IsMoveRefused foreign mine why
   one_refused why refused = λ values. subst (λ l. IsRefusedAs (join_list l (map (shifted_by_value values) mine)) why) (sym by_each) (refused each values)
 
 -- ---- all entries of others

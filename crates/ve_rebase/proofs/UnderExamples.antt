@@ -79,7 +79,7 @@ takes_both = record { entry = entry (Retain 1 ∷ Replace (letters (codes "de"))
 both_are_joined : (values : List Value) → AreAllJoined (map parcel_by_value (theirs ∷ puts_w ∷ [])) (map parcel_by_value (all_over values (puts_x ∷ puts_y ∷ [])))
     (((model.Retain 1 ∷ model.Replace (plainly (codes "bc")) [] ∷ model.Retain 4 ∷ []) ∷ []) ∷ ((model.Replace [] (plainly (codes "w")) ∷ model.Retain 5 ∷ []) ∷ []) ∷ [])
     (((model.Retain 3 ∷ model.Replace [] (plainly (codes "x")) ∷ model.Retain 1 ∷ []) ∷ []) ∷ ((model.Retain 5 ∷ model.Replace [] (plainly (codes "y")) ∷ []) ∷ []) ∷ [])
-both_are_joined values = (refl, refl, refl, refl, refl)
+both_are_joined values = (refl, refl, (refl, refl, refl))
 
 -- x stands between d and e, so the front ends before an entry that takes both
 stops_before_a_conflict : (one two : Parcel) (kept : List Entry) →

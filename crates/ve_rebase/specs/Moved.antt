@@ -45,8 +45,8 @@ pub record IsMovedOver (foreign : Parcel) (mine after : List Shifted) (made : Pa
   pub cites : ParcelCites foreign → ParcelCites made
 
 -- it isn't joined, whatever values mine cite
-abbrev pub IsRefusedMoved : Parcel → List Shifted → RebaseFault → Type 0
-IsRefusedMoved foreign mine why = (values : List Value) → IsRefusedAs (join_list (parcel_by_value foreign) (map (shifted_by_value values) mine)) why
+abbrev pub IsMoveRefused : Parcel → List Shifted → RebaseFault → Type 0
+IsMoveRefused foreign mine why = (values : List Value) → IsRefusedAs (join_list (parcel_by_value foreign) (map (shifted_by_value values) mine)) why
 
 -- Mine moved over the others' entries before the first that is in conflict, and what these are over
 -- mine.

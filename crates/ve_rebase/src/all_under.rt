@@ -5,7 +5,7 @@ ghost use Rattle.ve_rebase.specs.Entries.{parcels_by_value};
 ghost use Rattle.ve_rebase.specs.Lists.{RunFromOneLength};
 ghost use Rattle.ve_rebase.specs.Shifted.{IsShifted, operations};
 ghost use Rattle.ve_rebase.specs.Under.{all_over, AreAllUnder};
-ghost use Rattle.ve_rebase.specs.Moved.{all_operations, AreBegun, AreWrittenInto, IsMovedOver, IsRefusedMoved, IsWrittenInto, MeetMoved, WereMoved};
+ghost use Rattle.ve_rebase.specs.Moved.{all_operations, AreBegun, AreWrittenInto, IsMovedOver, IsMoveRefused, IsWrittenInto, MeetMoved, WereMoved};
 
 use crate::RebaseFault;
 use crate::entries::parcel_with;
@@ -68,7 +68,7 @@ fn moved_over<'a>(
     requires meet { MeetMoved (parcel_by_value foreign.now) mine.old.items }
     ensures moved { IfOk result (IsMovedOver foreign.now mine.old.items mine.new.items) }
     ensures kept { OnErr result (mine.new.items ≡ mine.old.items) }
-    ensures refused { IfErr result (IsRefusedMoved foreign.now mine.old.items) }
+    ensures refused { IfErr result (IsMoveRefused foreign.now mine.old.items) }
 {
     let mut over = begun(alloc, foreign.entry.txs.as_slice())?;
     put_into(buffer, mine.as_slice())?;

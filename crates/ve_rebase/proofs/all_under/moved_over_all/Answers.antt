@@ -1,5 +1,5 @@
 use Rattle.std.proofs.Common.{◌+◌, sym, subst}
-use Rattle.ve_rebase.specs.Moved.{WereMoved, IsRefusedMoved}
+use Rattle.ve_rebase.specs.Moved.{WereMoved, IsMoveRefused}
 use Rattle.ve_rebase.proofs.MovedLemmas.{MovedSoFar, moved_begun, moved_meets, moved_next, moved_clash, moved_done}
 use Rattle.ve_rebase.proofs.all_under.moved_over_all.Goals as goal
 
@@ -19,7 +19,7 @@ moved_over-requires-clause-meet c =
 pub returns-in-Err-Conflict : goal.returns-in-Err-Conflict
 returns-in-Err-Conflict c =
     let one = c.parcel-item.result in
-    let refused = subst (IsRefusedMoved one c.loop-parcel.mine.items) c.in-Err-Conflict.field-0-is c.in-Err-Conflict.ensures.refused in
+    let refused = subst (IsMoveRefused one c.loop-parcel.mine.items) c.in-Err-Conflict.field-0-is c.in-Err-Conflict.ensures.refused in
     subst (λ l. WereMoved c.args.foreign.now c.args.mine.now.items l c.loop-parcel.committed) (sym c.in-Err-Conflict.ensures.kept)
     (moved_clash c.args.foreign.now c.args.mine.now.items c.loop-parcel.mine.items c.loop-parcel.committed c.loop-parcel.parcel-index one c.loop-parcel.invariant
     c.loop-parcel-test.true c.parcel-item.is (record { committed = c.in-Err-Conflict.field-0-0; mine = c.in-Err-Conflict.field-0-1 }) refused)
