@@ -1,7 +1,6 @@
 -- All transactions of entries joined at once, and the same entry by entry.
 use Rattle.std.proofs.Common.{◌≡◌, suc, List, [], ◌∷◌, ◌++◌, length, map, None, Some, Result, Ok, Err, refl, sym, ap, subst, ◌∙◌}
 use Rattle.std.specs.Prelude.{flat_map, ◌≢◌}
-use Rattle.std.proofs.lemmas.List.{append_assoc}
 use Rattle.model_change.specs.Transaction.{Transaction}
 use Rattle.model_change.specs.Join.{join_row, join_list, list_with, after_row, RangeConflict}
 use Rattle.model_site.specs.Entries.{Parcel}

@@ -1,5 +1,5 @@
 -- A site's transactions moved over entries of other sites, as a span each: for private functions.
-use Rattle.std.specs.Prelude.{◌≡◌, ◌≤◌, ◌++◌, ℕ, List, [], ◌∷◌, length, map, flat_map, slice_get, take, All, Some, Ok, Err}
+use Rattle.std.specs.Prelude.{◌≡◌, ◌≤◌, ℕ, List, [], ◌∷◌, length, map, flat_map, slice_get, take, All, Some, Ok, Err}
 use Rattle.ve_base.specs.declared.value.Value.{Value}
 use Rattle.model_change.specs.Transaction.{Transaction}
 use Rattle.model_change.specs.Join.{join_list, RangeConflict}

@@ -1,4 +1,4 @@
-// A site's entries joined over entries of other sites, all of them, until two transactions conflict.
+// A site's entries joined over entries of other sites, until one of these is in conflict.
 ghost use Rattle.std.specs.Prelude.{◌≡◌, ◌++◌, All, map, IfOk, IfErr, OnOk, OnErr};
 ghost use Rattle.ve_tx.specs.ByValue.{parcel_by_value};
 ghost use Rattle.ve_rebase.specs.Entries.{parcels_by_value};

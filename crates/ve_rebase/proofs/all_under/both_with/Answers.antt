@@ -1,6 +1,5 @@
-use Rattle.std.proofs.Common.{◌≡◌, ◌<◌, ◌≤◌, ◌+◌, ◌++◌, length, drop, sym, ap, subst, arith}
+use Rattle.std.proofs.Common.{◌<◌, ◌≤◌, ◌+◌, ◌++◌, length, drop, sym, ap, subst, arith}
 use Rattle.std.proofs.lemmas.List.{length-append, take_rest, length-take-le}
-use Rattle.ve_rebase.specs.Moved.{IsWrittenInto}
 use Rattle.ve_rebase.proofs.MovedLemmas.{WrittenSoFar, written_begun, within_left, kept_left, shifted_left, written_next, written_done}
 use Rattle.ve_rebase.proofs.UnderLemmas.{found}
 use Rattle.ve_rebase.proofs.all_under.both_with.Goals as goal
