@@ -9,6 +9,7 @@ import subprocess
 import time
 from typing import Any, Sequence
 
+SET_PIPE_SIZE = 1031  # Linux's F_SETPIPE_SZ, which Python 3.9 doesn't name
 PIPE = 1 << 20  # as many bytes as a pipe may hold, so that a long reply is written without a wait
 PIECE = 1 << 16  # what is read at once; room for more would be made for each reply
 
@@ -34,7 +35,7 @@ class Run:
         self._process = subprocess.Popen(command, stdin=subprocess.PIPE, stdout=subprocess.PIPE, bufsize=0)
         assert self._process.stdin and self._process.stdout
         self._lines, self._replies = self._process.stdin.fileno(), self._process.stdout.fileno()
-        fcntl.fcntl(self._replies, fcntl.F_SETPIPE_SZ, PIPE)
+        fcntl.fcntl(self._replies, SET_PIPE_SIZE, PIPE)
         if memory is not None:
             resource.prlimit(self._process.pid, resource.RLIMIT_AS, (memory, memory))
 
