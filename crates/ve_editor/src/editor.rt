@@ -93,10 +93,13 @@ impl Editor {
         ensures counted { steps.old ≤ steps.new }
         ensures steps { steps.new ≤ steps.old + most_steps self.now.items }
     {
+        let list = self.list.copy(self.alloc)?;
+        let store = self.store.copy(self.alloc)?;
+        let tree = self.tree.copy(self.alloc)?;
         Ok(Editor {
-            list: self.list.copy(self.alloc)?,
-            store: self.store.copy(self.alloc)?,
-            tree: self.tree.copy(self.alloc)?,
+            list,
+            store,
+            tree,
             selection: self.selection,
             alloc: self.alloc,
         })
