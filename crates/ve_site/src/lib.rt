@@ -35,6 +35,7 @@ mod pending;
 mod sent;
 mod site;
 mod take;
+mod taking;
 mod untold;
 
 pub use laws::{settling_performs, takes_are_bounded};
