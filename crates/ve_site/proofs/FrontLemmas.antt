@@ -1,6 +1,6 @@
 -- Entries of other sites that are in conflict with no pending one: taking them one after the other
 -- is to perform all of them as they are over the pending ones, and to write these once.
-use Rattle.std.proofs.Common.{◌≡◌, ◌+◌, ℕ, suc, List, [], ◌∷◌, ◌++◌, length, take, drop, None, refl, sym, ap, ◌∙◌, subst, arith}
+use Rattle.std.proofs.Common.{◌≡◌, ◌<◌, ◌+◌, ℕ, suc, List, [], ◌∷◌, ◌++◌, length, take, drop, None, refl, sym, ap, ◌∙◌, subst, arith}
 use Rattle.std.proofs.lemmas.List.{append-nil, drop_all, length-append, length-map, length-take, take-append-drop}
 use Rattle.model_items.specs.declared.plain_item.PlainItem.{PlainItem}
 use Rattle.model_change.specs.Replay.{AllRun, flattened, replay, reversal}
@@ -25,7 +25,7 @@ use Rattle.ve_site.proofs.TakenLemmas.{committed_runs, has_taken, may_take_next}
 -- ---- one entry that is in conflict with none
 
 -- a site with this replica, told so, which has these pending entries, of which so many are sent
-abbrev with_pending : Replica → Untold → (seen sent : ℕ) → List Parcel → Site → Site
+abbrev pub with_pending : Replica → Untold → (seen sent : ℕ) → List Parcel → Site → Site
 with_pending replica untold seen sent kept s = record s {
   replica = replica;
   untold = untold;
@@ -98,7 +98,7 @@ rest_joined : (f : Parcel) (fs : List Parcel) (s : Site) (cs kept : List Parcel)
     AreAllJoined fs (parcels (pending (take_entry f s))) cs kept
 rest_joined f fs s cs kept h = subst (λ mine. AreAllJoined fs mine cs kept) (sym (pending_after f s)) h
 
-pub front_taken : (f : Parcel) (fs : List Parcel) (s : Site) (cs kept : List Parcel) → AreAllJoined (f ∷ fs) (parcels (pending s)) cs kept →
+front_taken : (f : Parcel) (fs : List Parcel) (s : Site) (cs kept : List Parcel) → AreAllJoined (f ∷ fs) (parcels (pending s)) cs kept →
     take_foreign (f ∷ fs) s ≡ with_front (flattened cs) kept (length (f ∷ fs)) s
 front_taken f fs s [] kept joined = absurd joined
 front_taken f [] s (c ∷ d ∷ cs) kept joined = absurd joined.2
@@ -112,6 +112,11 @@ front_taken f (g ∷ gs) s (c ∷ cs) kept joined =
     ∙ (two_fronts j.committed (flattened cs) j.kept kept 1 (length (g ∷ gs)) s (all_kept f s joined.0)
     ∙ (ap (λ ts. with_front (ts ++ flattened cs) kept (1 + length (g ∷ gs)) s) joined.1
     ∙ ap (λ n. with_front (c ++ flattened cs) kept n s) (let e : 1 + length (g ∷ gs) ≡ length (f ∷ g ∷ gs) = omega arith in e))))
+
+pub front_is : (fs : List Parcel) (s : Site) (cs kept : List Parcel) → 0 < length fs → AreAllJoined fs (parcels (pending s)) cs kept →
+    take_foreign fs s ≡ with_front (flattened cs) kept (length fs) s
+front_is [] s cs kept some joined = absurd (omega (arith, some))
+front_is (f ∷ fs) s cs kept some joined = front_taken f fs s cs kept joined
 
 -- the transactions that it makes
 pub front_makes : (fs : List Parcel) (s : Site) (cs kept : List Parcel) → AreAllJoined fs (parcels (pending s)) cs kept → taking_all fs s ≡ flattened cs

@@ -11,15 +11,12 @@ use Rattle.model_site_law.proofs.ReplayLemmas.{flattened-append, parcels-append}
 use Rattle.ve_tx.specs.declared.entry.Entry.{Entry}
 use Rattle.ve_tx.specs.Operation.{by_value}
 use Rattle.ve_editor.specs.Edited.{entry_by_value}
+use Rattle.ve_site.specs.Dropped.{back_over}
 use Rattle.ve_site.proofs.PatchLemmas.{passed_both}
 
-reversal-append : (ts us : List Transaction) → reversal (ts ++ us) ≡ reversal us ++ reversal ts
+pub reversal-append : (ts us : List Transaction) → reversal (ts ++ us) ≡ reversal us ++ reversal ts
 reversal-append [] us = sym (append-nil (reversal us))
 reversal-append (t ∷ ts) us = ap (λ l. l ++ inverse t ∷ []) (reversal-append ts us) ∙ append_assoc (reversal us) (reversal ts) (inverse t ∷ [])
-
--- the transactions that take entries back, over the values that they cite
-abbrev pub back_over : List Value → List Entry → List Transaction
-back_over values es = reversal (flattened (parcels (map (entry_by_value values) es)))
 
 -- one more is taken back
 pub entry_undone : (values : List Value) (e : Entry) (l rest : List Entry) (old u v : Untold) → l ≡ e ∷ rest → u ≡ passed (back_over values rest) old →
@@ -32,7 +29,7 @@ entry_undone values e l rest old u v split before noted =
     ∙ (ap (λ us. passed us old) (sym (reversal-append ts (flattened (parcels (map (entry_by_value values) rest)))))
     ∙ ap (λ es. passed (back_over values es) old) (sym split))))
 
-back-append : (values : List Value) (xs ys : List Entry) → back_over values (xs ++ ys) ≡ back_over values ys ++ back_over values xs
+pub back-append : (values : List Value) (xs ys : List Entry) → back_over values (xs ++ ys) ≡ back_over values ys ++ back_over values xs
 back-append values xs ys =
     let first = map (entry_by_value values) xs in
     let second = map (entry_by_value values) ys in
