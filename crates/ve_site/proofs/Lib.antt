@@ -7,8 +7,14 @@ mod UndoLemmas
 mod RedoLemmas
 mod SendLemmas
 mod TakenLemmas
+mod MakingLemmas
+mod FrontLemmas
 mod DropLemmas
+mod EachLemmas
+mod PendingLemmas
 mod TakeLemmas
+mod FrontSiteLemmas
+mod SeveralLemmas
 mod FeedLemmas
 mod LengthLemmas
 mod TotalLemmas

@@ -1,4 +1,4 @@
--- Entries noted as taken back, the last one first.
+-- Entries noted as taken back, the last one first; and parcels noted, the first one first.
 use Rattle.std.proofs.Common.{◌≡◌, ◌-◌, ℕ, zero, suc, List, [], ◌∷◌, ◌++◌, length, map, drop, min, sym, ap, ◌∙◌, arith}
 use Rattle.std.proofs.lemmas.List.{append_assoc, append-nil, drop_min, map-append}
 use Rattle.ve_base.specs.declared.value.Value.{Value}
@@ -9,6 +9,8 @@ use Rattle.model_site.specs.Entries.{parcels}
 use Rattle.model_site.specs.Untold.{Untold, passed}
 use Rattle.model_site_law.proofs.ReplayLemmas.{flattened-append, parcels-append}
 use Rattle.ve_tx.specs.declared.entry.Entry.{Entry}
+use Rattle.ve_tx.specs.declared.parcel.Parcel.{Parcel}
+use Rattle.ve_tx.specs.ByValue.{parcel_by_value}
 use Rattle.ve_tx.specs.Operation.{by_value}
 use Rattle.ve_editor.specs.Edited.{entry_by_value}
 use Rattle.ve_site.specs.Dropped.{back_over}
@@ -53,3 +55,11 @@ both_undone values n xs ys first second old u v a b before after =
     ∙ (ap (passed (back_over values first)) before
     ∙ (passed_both (back_over values second) (back_over values first) old
     ∙ (ap (λ us. passed us old) (sym (back-append values first second)) ∙ ap (λ es. passed (back_over values es) old) all)))
+
+-- one more parcel is performed
+pub parcel_noted : (p : Parcel) (l rest : List Parcel) (u v all : Untold) → l ≡ p ∷ rest → passed (flattened (map parcel_by_value l)) u ≡ all → v ≡ passed (parcel_by_value p) u →
+    passed (flattened (map parcel_by_value rest)) v ≡ all
+parcel_noted p l rest u v all split before noted =
+    let later = flattened (map parcel_by_value rest) in
+    ap (passed later) noted
+    ∙ (passed_both (parcel_by_value p) later u ∙ (sym (ap (λ ps. passed (flattened (map parcel_by_value ps)) u) split) ∙ before))

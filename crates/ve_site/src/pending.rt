@@ -81,11 +81,10 @@ pub fn admit_under<L: Ledger>(
     Ok(last.store_after)
 }
 
-/// Performs parcels, one after the other, and notes each. It makes no copy, so an `Err` may leave
-/// some of them performed.
+/// Performs parcels, one after the other. It makes no copy, so an `Err` may leave some of them
+/// performed.
 pub fn admit_each<L: Ledger>(
     editor: &mut Editor,
-    untold: &mut Untold,
     parcels: &[Parcel],
     steps: &mut Steps<L>,
 ) -> Result<(), Memory>
@@ -93,17 +92,13 @@ pub fn admit_each<L: Ledger>(
     requires stand { AllStand (flattened (map parcel_by_value parcels.now)) editor.old.items }
     ensures page { OnOk result (
         editor.new ≡ all_performed (flattened (map parcel_by_value parcels.now)) editor.old) }
-    ensures noted { OnOk result (
-        untold.new ≡ passed (flattened (map parcel_by_value parcels.now)) untold.old) }
     ensures counted { steps.old ≤ steps.new }
     ensures steps { steps.new
         ≤ steps.old
         + steps_after (flattened (map parcel_by_value parcels.now)) editor.old.items }
 {
-    let _kept = &untold;
     for parcel in parcels {
         editor.admit_in_place(parcel, steps)?;
-        untold.note(parcel.entry.txs.as_slice());
     }
     Ok(())
 }

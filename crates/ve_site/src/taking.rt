@@ -94,7 +94,8 @@ impl Taking {
             return Err(Memory);
         };
         let (sent, unsent) = parted(self.alloc, kept, sent_len)?;
-        admit_each(&mut self.editor, &mut self.untold, committed.as_slice(), steps)?;
+        admit_each(&mut self.editor, committed.as_slice(), steps)?;
+        self.untold.note_parcels(committed.as_slice());
         let stored = self.editor.doc().store.len();
         self.seen = seen;
         self.sent = renumbered(sent, stored);
