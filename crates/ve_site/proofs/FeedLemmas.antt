@@ -19,6 +19,14 @@ use Rattle.ve_site.proofs.MakingLemmas.{may_take_both, steps_of_taking, taken-ap
 pub taking_stands : (t : Taking) → IsTaking t → Stands (taking_site t)
 taking_stands t is = is.stands t.untold
 
+-- the first so many count no more than all
+pub first_within : (n : ℕ) (parcels : List Parcel) (s : Site) (before after : ℕ) → after ≤ before + steps_after (taking_all (map parcel_by_value (take n parcels)) s) s.replica.items →
+    after ≤ before + steps_after (taking_all (map parcel_by_value parcels) s) s.replica.items
+first_within n parcels s before after h =
+    let both = ap (λ ps. steps_after (taking_all ps s) s.replica.items) (parted_by_value n parcels)
+    ∙ steps_of_taking (map parcel_by_value (take n parcels)) (map parcel_by_value (drop n parcels)) s in
+    omega (arith, h, both)
+
 -- ---- some entries, and then others
 
 module _ (now : Taking) (parcels : List Parcel) (n : ℕ) (new : Taking) (is : IsTaking now) (run : AllRun (flattened (map parcel_by_value parcels)) (ground_of (taking_site now)))
@@ -44,15 +52,6 @@ module _ (now : Taking) (parcels : List Parcel) (n : ℕ) (new : Taking) (is : I
       ap (λ ps. steps_after (taking_all ps (taking_site now)) now.editor.items) (parted_by_value n parcels)
       ∙ (steps_of_taking first later (taking_site now)
       ∙ ap (λ (s : Site). steps_after (taking_all first (taking_site now)) now.editor.items + steps_after (taking_all later s) s.replica.items) (sym taken.site))
-
-  pub first_within : (before after : ℕ) → after ≤ before + steps_after (taking_all first (taking_site now)) now.editor.items →
-      after ≤ before + steps_after (taking_all (map parcel_by_value parcels) (taking_site now)) now.editor.items
-  first_within before after h = let both = both_count in omega (arith, h, both)
-
-  pub both_within : (before between after : ℕ) → between ≤ before + steps_after (taking_all first (taking_site now)) now.editor.items →
-      after ≤ between + steps_after (taking_all later (taking_site new)) new.editor.items →
-      after ≤ before + steps_after (taking_all (map parcel_by_value parcels) (taking_site now)) now.editor.items
-  both_within before between after h k = let both = both_count in omega (arith, h, k, both)
 
 -- ---- a front, and the entry after it
 

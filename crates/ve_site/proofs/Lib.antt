@@ -9,13 +9,14 @@ mod SendLemmas
 mod TakenLemmas
 mod MakingLemmas
 mod FrontLemmas
+mod SeveralLemmas
 mod DropLemmas
 mod EachLemmas
 mod PendingLemmas
 mod TakeLemmas
 mod FrontSiteLemmas
-mod SeveralLemmas
 mod FeedLemmas
+mod InPlaceLemmas
 mod LengthLemmas
 mod TotalLemmas
 mod SpellLemmas

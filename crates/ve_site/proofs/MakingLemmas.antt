@@ -58,7 +58,7 @@ all_replayed (entry ∷ entries) s =
 
 -- ---- some entries, and then others
 
-making_anyway : (entries : List Parcel) (s : Site) → taking_all entries s ≡ taking_all entries (record s { undone = [] })
+pub making_anyway : (entries : List Parcel) (s : Site) → taking_all entries s ≡ taking_all entries (record s { undone = [] })
 making_anyway [] s = refl
 making_anyway (entry ∷ entries) s = refl
 

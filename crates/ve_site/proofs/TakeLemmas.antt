@@ -1,10 +1,11 @@
 -- The meaning of a site's fields once it took an entry of another site, and that they are a site's
 -- again.
-use Rattle.std.proofs.Common.{◌≡◌, ◌≤◌, ◌+◌, ℕ, suc, List, [], ◌∷◌, ◌++◌, length, map, take, drop, All, Option, None, refl, sym, ap, ◌∙◌, subst, arith}
-use Rattle.std.proofs.lemmas.List.{length-map, length-take, drop-map}
+use Rattle.std.proofs.Common.{◌≡◌, ◌≤◌, ◌<◌, ◌+◌, ℕ, suc, List, [], ◌∷◌, ◌++◌, length, map, take, drop, All, Option, None, refl, sym, ap, ◌∙◌, subst, arith}
+use Rattle.std.proofs.lemmas.List.{length-append, length-map, length-take, drop-map}
 use Rattle.std.proofs.lemmas.List.Elements.{All-nil}
 use Rattle.ve_base.specs.declared.value.Value.{Value}
 use Rattle.model_change.specs.Replay.{AllRun, flattened, reversal}
+use Rattle.model_change.specs.Transaction.{Transaction}
 use Rattle.model_site.specs.Entries.{Parcel as ModelParcel, all_reverted, parcels}
 use Rattle.model_site.specs.Entries.{Entry as ModelEntry}
 use Rattle.model_site.specs.Joined.{Joined, join_entries}
@@ -33,6 +34,7 @@ use Rattle.ve_site.proofs.FrontLemmas.{with_pending}
 use Rattle.ve_site.proofs.OverLemmas.{over_cites}
 use Rattle.ve_site.proofs.PatchLemmas.{passed_both}
 use Rattle.ve_site.proofs.PendingLemmas.{cites_from, cites_to, over_rest, over_same, pending_are, pending_count, written_count, written_is, written_same}
+use Rattle.ve_site.proofs.SeveralLemmas.{two_where_dropped}
 use Rattle.ve_site.proofs.StandsLemmas.{all_stand, untold_stands}
 use Rattle.ve_site.proofs.TakenLemmas.{acked_stands, committed_runs, has_taken, restacked_stands}
 
@@ -189,6 +191,10 @@ module _ (editor : Replica) (untold : Untold) (seen : ℕ) (sent : List Entry) (
 
 -- ---- an entry taken, as the call lends the pending entries
 
+-- first what is taken back is noted, and then what is performed
+pub both_noted : (back committed : List Transaction) (old dropped later : Untold) → dropped ≡ passed back old → later ≡ passed committed dropped → later ≡ passed (back ++ committed) old
+both_noted back committed old dropped later first then = then ∙ (ap (passed committed) first ∙ passed_both back committed old)
+
 module _ (editor : Replica) (untold : Untold) (seen : ℕ) (sent : List Entry) (old : Stacks) (shared : ℕ) (flight : Option ℕ) (is : IsSite editor seen sent old shared flight)
     (foreign : Parcel) (run : AllRun (parcel_by_value foreign) (ground_of (site_of editor untold seen sent old shared flight))) (lent behind : List Entry) (lent_is : lent ≡ sent)
     (behind_is : behind ≡ old.done) (made : EntriesUnder) (made_is : AreUnder foreign (lent ++ behind) made) (left : List Entry) (left_is : left ≡ made.kept) where
@@ -208,6 +214,20 @@ module _ (editor : Replica) (untold : Untold) (seen : ℕ) (sent : List Entry) (
   lent_within =
       subst (λ es. length left ≤ length es) (sym both) (subst (λ n. n ≤ length (sent ++ old.done)) (sym same_left) (left_within editor untold seen sent old shared flight is foreign run made under))
 
+  -- how many are left is compared with how many are pending
+  module _ (count : ℕ) (count_is : count ≡ length (pending (site_of editor untold seen sent old shared flight))) where
+    pub lent_whole : count ≤ length left → length left ≡ length (lent ++ behind)
+    lent_whole all_left =
+        let within = lent_within in
+        let here = ap length both ∙ length-append sent old.done in
+        let there = pending_count editor untold seen sent old shared flight in
+        omega (arith, within, here, there, count_is, all_left)
+
+    pub lent_dropped : length left < count → 2 ≤ length (taking_one (parcel_by_value foreign) (site_of editor untold seen sent old shared flight))
+    lent_dropped fewer =
+        let kept = as_many editor untold seen sent old shared flight is foreign run made under in
+        two_where_dropped (parcel_by_value foreign) (site_of editor untold seen sent old shared flight) (omega (arith, same_left, kept, count_is, fewer))
+
   pub lent_stands : AllStand (parcel_by_value made.committed) (all_reverted (map (entry_by_value editor.store) (drop (length left) (lent ++ behind))) editor).items
   lent_stands =
       subst (λ es. AllStand (parcel_by_value made.committed) (all_reverted (map (entry_by_value editor.store) (drop (length left) es)) editor).items) (sym both)
@@ -226,9 +246,9 @@ module _ (editor : Replica) (untold : Untold) (seen : ℕ) (sent : List Entry) (
   lent_counts before after h = subst (λ us. after ≤ before + steps_after us editor.items) lent_makes h
 
   module _ (new : Replica) (lent_admitted : IsAdmitted editor (lent ++ behind) (length left) (parcel_by_value made.committed) new) (stored next : ℕ) (first : List Entry) (now : Stacks)
-      (noted dropped : Untold) (is_stored : stored ≡ length new.store) (is_next : next ≡ seen + 1) (first_lent : first ≡ map (numbered_alike stored) (take (length lent) made.kept))
+      (later : Untold) (is_stored : stored ≡ length new.store) (is_next : next ≡ seen + 1) (first_lent : first ≡ map (numbered_alike stored) (take (length lent) made.kept))
       (done_lent : now.done ≡ map (numbered_alike stored) (drop (length lent) made.kept)) (none : now.undone ≡ [])
-      (dropped_noted : dropped ≡ passed (back_over editor.store (drop (length left) (lent ++ behind))) untold) (committed_noted : noted ≡ passed (parcel_by_value made.committed) dropped) where
+      (noted : later ≡ passed (back_over editor.store (drop (length left) (lent ++ behind)) ++ parcel_by_value made.committed) untold) where
     admitted : IsAdmitted editor (sent ++ old.done) (length made.kept) (parcel_by_value made.committed) new
     admitted =
         subst (λ n. IsAdmitted editor (sent ++ old.done) n (parcel_by_value made.committed) new) same_left
@@ -240,19 +260,17 @@ module _ (editor : Replica) (untold : Untold) (seen : ℕ) (sent : List Entry) (
     done_is : now.done ≡ map (numbered_alike stored) (drop (length sent) made.kept)
     done_is = done_lent ∙ ap (λ l. map (numbered_alike stored) (drop (length l) made.kept)) lent_is
 
-    all_noted : noted ≡ passed (back_over editor.store (drop (length made.kept) (sent ++ old.done)) ++ parcel_by_value made.committed) untold
+    all_noted : later ≡ passed (back_over editor.store (drop (length made.kept) (sent ++ old.done)) ++ parcel_by_value made.committed) untold
     all_noted =
-        committed_noted
-        ∙ (ap (passed (parcel_by_value made.committed)) dropped_noted
-        ∙ (passed_both (back_over editor.store (drop (length left) (lent ++ behind))) (parcel_by_value made.committed) untold
+        noted
         ∙ (ap (λ es. passed (back_over editor.store (drop (length left) es) ++ parcel_by_value made.committed) untold) both
-        ∙ ap (λ n. passed (back_over editor.store (drop n (sent ++ old.done)) ++ parcel_by_value made.committed) untold) same_left)))
+        ∙ ap (λ n. passed (back_over editor.store (drop n (sent ++ old.done)) ++ parcel_by_value made.committed) untold) same_left)
 
-    pub lent_same : site_of new noted next first now shared flight ≡ take_entry (parcel_by_value foreign) (site_of editor untold seen sent old shared flight)
-    lent_same = taken_same editor untold seen sent old shared flight is foreign run made under new admitted stored next first now noted is_stored is_next first_is done_is none all_noted
+    pub lent_same : site_of new later next first now shared flight ≡ take_entry (parcel_by_value foreign) (site_of editor untold seen sent old shared flight)
+    lent_same = taken_same editor untold seen sent old shared flight is foreign run made under new admitted stored next first now later is_stored is_next first_is done_is none all_noted
 
     pub lent_is_site : IsSite new next first now shared flight
-    lent_is_site = taken_is editor untold seen sent old shared flight is foreign run made under new admitted stored next first now noted is_stored is_next first_is done_is none all_noted
+    lent_is_site = taken_is editor untold seen sent old shared flight is foreign run made under new admitted stored next first now later is_stored is_next first_is done_is none all_noted
 
-    pub lent_pending : length left ≡ length (pending (site_of new noted next first now shared flight))
-    lent_pending = same_left ∙ left_pending editor untold seen sent old shared flight is foreign run made under new admitted stored next first now noted is_stored is_next first_is done_is none all_noted
+    pub lent_pending : length left ≡ length (pending (site_of new later next first now shared flight))
+    lent_pending = same_left ∙ left_pending editor untold seen sent old shared flight is foreign run made under new admitted stored next first now later is_stored is_next first_is done_is none all_noted

@@ -82,9 +82,10 @@ impl Taking {
             + steps_after (taking_all (map parcel_by_value parcels.now) (taking_site self.old))
             self.old.editor.items }
     {
-        let sent_len = self.sent.len();
+        let own_sent = self.sent.as_slice();
+        let own_unsent = self.unsent.as_slice();
         let EntriesUnderAll { committed, kept } = entries_under_all(
-            self.alloc, parcels, self.sent.as_slice(), self.unsent.as_slice(),
+            self.alloc, parcels, own_sent, own_unsent,
         )?;
         let count = committed.as_slice().len();
         if count == 0 {
@@ -93,7 +94,7 @@ impl Taking {
         let Some(seen) = self.seen.checked_add(count) else {
             return Err(Memory);
         };
-        let (sent, unsent) = parted(self.alloc, kept, sent_len)?;
+        let (sent, unsent) = parted(self.alloc, kept, own_sent.len())?;
         admit_each(&mut self.editor, committed.as_slice(), steps)?;
         self.untold.note_parcels(committed.as_slice());
         let stored = self.editor.doc().store.len();
