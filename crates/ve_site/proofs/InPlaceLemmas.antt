@@ -1,6 +1,6 @@
 -- An entry of another site taken in place, where no pending one is dropped for it, and a feed that
 -- is taken so, or on a copy.
-use Rattle.std.proofs.Common.{◌≡◌, ◌≤◌, ◌+◌, ℕ, List, [], ◌∷◌, ◌++◌, length, map, drop, get_or, Option, Some, None, refl, sym, ap, ◌∙◌, subst, arith}
+use Rattle.std.proofs.Common.{◌≡◌, ◌≤◌, ◌+◌, ◌==◌, false, true, ℕ, zero, suc, List, [], ◌∷◌, ◌++◌, length, map, drop, get_or, Option, Some, None, refl, sym, ap, ◌∙◌, subst, arith}
 use Rattle.std.proofs.lemmas.List.{append-nil, drop_all}
 use Rattle.ve_base.specs.declared.value.Value.{Value}
 use Rattle.model_change.specs.Replay.{AllRun, flattened}
@@ -62,6 +62,10 @@ only_one [] x n is = absurd (omega (arith, n))
 only_one (y ∷ []) x n is = ap (λ z. z ∷ []) (sym is)
 only_one (y ∷ z ∷ xs) x n is = absurd (omega (arith, n))
 
+pub just_one : (n : ℕ) → n ≤ 1 → false ≡ (n == 0) → n ≡ 1
+just_one zero le some = let never : false ≡ true = some in cc
+just_one (suc n) le some = omega (arith, le)
+
 module _ (parcels : List Parcel) (one : Parcel) (n : length parcels ≡ 1) (is : one ≡ get_or parcels 0 one) where
   alone : map parcel_by_value parcels ≡ parcel_by_value one ∷ []
   alone = ap (map parcel_by_value) (only_one parcels one n is)
@@ -91,8 +95,3 @@ module _ (entries : List ModelParcel) (s : Site) (copy : Taking) (is : taking_si
   copy_counts before between after h k =
       let same = ap (λ (t : Site). steps_after (taking_all entries t) t.replica.items) is ∙ ap (λ ts. steps_after ts s.replica.items) (sym (making_anyway entries s)) in
       omega (arith, h, k, same)
-
--- what was counted before nothing changed
-pub feed_counts : (entries : List ModelParcel) (s : Site) (before between after : ℕ) → MakesCopy entries s → between ≡ before →
-    after ≤ between + (most_steps s.replica.items + steps_after (taking_all entries s) s.replica.items) → after ≤ before + steps_of_feed entries s
-feed_counts entries s before between after makes same h = let all = makes in omega (arith, all, same, h)

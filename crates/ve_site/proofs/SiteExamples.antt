@@ -19,7 +19,7 @@ use Rattle.ve_tree.specs.TreeOf.{most_steps}
 use Rattle.ve_site.specs.Counted.{undoing, redoing}
 use Rattle.ve_site.specs.Dropped.{numbered_alike}
 use Rattle.ve_site.specs.Ground.{ground_of, as_opened, AreOver}
-use Rattle.ve_site.specs.Laws.{longest_of, trees_for}
+use Rattle.ve_site.specs.Laws.{longest_of}
 use Rattle.ve_site.specs.Numbered.{site_of, with_site}
 use Rattle.ve_site.specs.Taking.{MayTake, steps_of_take}
 use Rattle.ve_site.specs.Refusal.{IsUndoRefusal, IsRedoRefusal, IsSendRefusal}
@@ -52,10 +52,6 @@ ground_has_neither = refl
 
 nothing_pending : ground_of (starting (page (codes "ab"))) ≡ letters (codes "ab")
 nothing_pending = refl
-
--- an entry of one transaction and one of two
-trees_are_counted : trees_for ((puts 0 97 1 ∷ []) ∷ (puts 0 97 1 ∷ puts 1 98 1 ∷ []) ∷ []) ≡ 7
-trees_are_counted = refl
 
 -- two letters on the confirmed list, one that is taken and two that are pending
 longest_list : longest_of ((puts 1 120 1 ∷ []) ∷ []) in_flight ≡ 5

@@ -18,6 +18,7 @@ use Rattle.ve_tx.specs.declared.entry.Entry.{Entry}
 use Rattle.ve_tx.specs.declared.parcel.Parcel.{Parcel}
 use Rattle.ve_tx.specs.ByValue.{parcel_by_value, ParcelCites}
 use Rattle.ve_tx.specs.Making.{Extends}
+use Rattle.ve_tx.specs.Operation.{by_value}
 use Rattle.ve_tx.proofs.ValuesLemmas.{extends_on}
 use Rattle.ve_editor.specs.Counted.{steps_after}
 use Rattle.ve_editor.specs.Edited.{AllStand, entry_by_value, EntryCites}
@@ -227,6 +228,13 @@ module _ (editor : Replica) (untold : Untold) (seen : ℕ) (sent : List Entry) (
     lent_dropped fewer =
         let kept = as_many editor untold seen sent old shared flight is foreign run made under in
         two_where_dropped (parcel_by_value foreign) (site_of editor untold seen sent old shared flight) (omega (arith, same_left, kept, count_is, fewer))
+
+  -- joined, the entry has as many transactions as before
+  pub lent_few : length foreign.entry.txs ≤ 1 → length (parcel_by_value made.committed) ≤ 1
+  lent_few few =
+      let same : length made.committed.entry.txs ≡ length foreign.entry.txs = ap (λ (o : ℕ × Parcel). o.0) made_is.committed_outline in
+      let all = length-map made.committed.entry.txs (by_value made.committed.values) in
+      omega (arith, few, same, all)
 
   pub lent_stands : AllStand (parcel_by_value made.committed) (all_reverted (map (entry_by_value editor.store) (drop (length left) (lent ++ behind))) editor).items
   lent_stands =

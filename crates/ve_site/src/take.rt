@@ -162,9 +162,7 @@ impl Site {
     {
         let mut taking = Taking::of(self, steps)?;
         taking.take_all(parcels, steps)?;
-        let Some(left) = taking.sent.len().checked_add(taking.unsent.as_slice().len()) else {
-            return Err(Memory);
-        };
+        let left = taking.pending_len()?;
         self.replace_with(taking);
         Ok(left)
     }

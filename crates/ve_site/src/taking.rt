@@ -1,6 +1,7 @@
 // Entries of other sites taken on a copy, which takes the place of the site's own then.
 ghost use Rattle.std.specs.Prelude.{◌≡◌, ◌≤◌, ◌<◌, ◌+◌, [], All, length, map, take, IfOk, OnOk};
 ghost use Rattle.model_change.specs.Replay.{AllRun, flattened};
+ghost use Rattle.model_site.specs.Site.{pending};
 ghost use Rattle.model_site.specs.Take.{take_entry, take_foreign};
 ghost use Rattle.ve_tree.specs.TreeOf.{most_steps};
 ghost use Rattle.ve_tx.specs.ByValue.{parcel_by_value, ParcelCites};
@@ -56,6 +57,16 @@ impl Taking {
             in_flight: site.in_flight,
             alloc: site.alloc,
         })
+    }
+
+    /// How many entries it has pending.
+    pub fn pending_len(&self) -> Result<usize, Memory>
+        ensures { IfOk result (λ count. count ≡ length (pending (taking_site self.now))) }
+    {
+        match self.sent.len().checked_add(self.unsent.as_slice().len()) {
+            Some(count) => Ok(count),
+            None => Err(Memory),
+        }
     }
 
     /// Takes the entries before the first that is in conflict with a pending one, and gives how

@@ -24,9 +24,19 @@ returns-clause-site g c =
     (c.in_ok-take_all.ensures.site ∙ copy_takes (map parcel_by_value c.args.parcels.now) c.args.self.now.site c.in_ok-taking.taking c.in_ok-taking.ensures.site)
 
 pub returns-clause-left : goal.returns-clause-left
-returns-clause-left g c = ?
+returns-clause-left g c = c.in_ok-left.ensures ∙ ap (λ (v : Numbered). length (pending v.site)) (sym c.replace_with.ensures)
 
 pub returns-clause-steps : goal.returns-clause-steps
 returns-clause-steps g c =
+    copy_counts (map parcel_by_value c.args.parcels.now) c.args.self.now.site c.in_ok-taking.taking c.in_ok-taking.ensures.site c.args.steps.now c.of.new.steps c.take_all.new.steps
+    c.of.ensures.steps c.take_all.ensures.steps
+
+pub returns-in_err-take_all-clause-steps : goal.returns-in_err-take_all-clause-steps
+returns-in_err-take_all-clause-steps g c =
+    copy_counts (map parcel_by_value c.args.parcels.now) c.args.self.now.site c.in_ok-taking.taking c.in_ok-taking.ensures.site c.args.steps.now c.of.new.steps c.take_all.new.steps
+    c.of.ensures.steps c.take_all.ensures.steps
+
+pub returns-in_err-left-clause-steps : goal.returns-in_err-left-clause-steps
+returns-in_err-left-clause-steps g c =
     copy_counts (map parcel_by_value c.args.parcels.now) c.args.self.now.site c.in_ok-taking.taking c.in_ok-taking.ensures.site c.args.steps.now c.of.new.steps c.take_all.new.steps
     c.of.ensures.steps c.take_all.ensures.steps
