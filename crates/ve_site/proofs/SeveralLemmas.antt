@@ -49,8 +49,8 @@ both_have_some committed (e ∷ es) fewer =
     by_first (Err clash) is later fewer = (
       some_are committed (λ none. no_conflict ([], e) clash (sym (over_none e) ∙ (ap (λ c. join_list c e) (sym none) ∙ is))),
       let some = some_are e (λ none. no_conflict (committed, []) clash (ap (join_list committed) (sym none) ∙ is)) in
-      let all = length-append e (flattened es) in
-      omega (arith, some, all),
+          let all = length-append e (flattened es) in
+          omega (arith, some, all),
     )
     by_first (Ok joined) is later fewer = let both = later joined.0 (omega (arith, fewer)) in (both.committed_has, both.dropped_has)
 
