@@ -1,6 +1,6 @@
 -- An entry of another site for which a pending one is dropped makes two transactions at least: one
 -- that takes back, and one of its own.
-use Rattle.std.proofs.Common.{◌≡◌, ◌≤◌, ◌<◌, ◌+◌, ℕ, suc, List, [], ◌∷◌, ◌++◌, length, take, drop, Result, Ok, Err, refl, sym, ap, ◌∙◌, subst, arith}
+use Rattle.std.proofs.Common.{◌≡◌, ◌≤◌, ◌<◌, ◌+◌, List, [], ◌∷◌, length, take, drop, Result, Ok, Err, refl, sym, ap, ◌∙◌, arith}
 use Rattle.std.proofs.lemmas.List.{append-nil, length-append, length-map}
 use Rattle.model_items.specs.declared.plain_item.PlainItem.{PlainItem}
 use Rattle.model_change.specs.Inverse.{inverse}
@@ -14,8 +14,8 @@ use Rattle.model_site.specs.Site.{Site, pending}
 use Rattle.model_site_law.proofs.ReplayLemmas.{parcels-drop}
 use Rattle.model_site_law.proofs.UntilConflictLemmas.{joined_until_conflict}
 use Rattle.ve_tree.specs.TreeOf.{most_steps}
-use Rattle.ve_editor.specs.Counted.{steps_after, steps_of_copy, steps_over}
-use Rattle.ve_site.specs.Taking.{steps_of_feed, taking_all, taking_one}
+use Rattle.ve_editor.specs.Counted.{steps_after, steps_of_copy}
+use Rattle.ve_site.specs.Taking.{taking_one}
 use Rattle.ve_site.specs.Underway.{MakesCopy}
 
 -- over no transaction nothing is in conflict
