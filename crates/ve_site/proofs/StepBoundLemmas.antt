@@ -1,6 +1,6 @@
 -- How many steps a take counts, and how long its lists are: no transaction counts more than a tree
 -- of the longest list does.
-use Rattle.std.proofs.Common.{◌≡◌, ◌≤◌, ℕ, suc, ◌+◌, ◌*◌, List, [], ◌∷◌, ◌++◌, length, map, take, drop, refl, sym, ap, ◌∙◌, subst, arith, add-mul, suc-mul, mul-le-mul_right}
+use Rattle.std.proofs.Common.{◌≡◌, ◌≤◌, ℕ, suc, ◌+◌, ◌*◌, List, [], ◌∷◌, ◌++◌, length, map, take, drop, refl, sym, ap, ◌∙◌, subst, arith, add-mul, suc-mul}
 use Rattle.std.proofs.lemmas.List.{append-nil, length-append, length-map, take-append-drop}
 use Rattle.model_items.specs.declared.plain_item.PlainItem.{PlainItem}
 use Rattle.model_items.specs.declared.plain_item.PlainItem.TheVariants.{Char, Opening, Closing}
@@ -19,14 +19,16 @@ use Rattle.model_site.specs.Joined.{Joined, join_entries}
 use Rattle.model_site.specs.Site.{Site, pending}
 use Rattle.model_site.specs.Take.{take_entry}
 use Rattle.model_site_law.specs.Sound.{Sound}
-use Rattle.model_site_law.proofs.ReplayLemmas.{AllRun-parts, flattened-append, parcels-drop, parcels-noted, replay-append, sound_after}
-use Rattle.model_site_law.proofs.RevertLemmas.{items_all_reverted, items_performed}
+use Rattle.model_site_law.proofs.ReplayLemmas.{AllRun-parts, flattened-append, parcels-drop, replay-append, sound_after}
+use Rattle.model_site_law.proofs.RevertLemmas.{items_all_reverted}
 use Rattle.model_site_law.proofs.UntilConflictLemmas.{joined_until_conflict}
 use Rattle.ve_tree.specs.TreeOf.{most_steps}
 use Rattle.ve_editor.specs.Counted.{steps_of, steps_after, steps_of_copy}
 use Rattle.ve_site.specs.Ground.{Stands, ground_of}
 use Rattle.ve_site.specs.Taking.{steps_of_feed, taking_all, taking_one}
 use Rattle.ve_site.specs.Laws.{TakeIsBounded, longest_of}
+use Rattle.ve_site.proofs.FrontLemmas.{pending_after}
+use Rattle.ve_site.proofs.MakingLemmas.{one_replayed, steps_of_both}
 use Rattle.ve_site.proofs.TouchLemmas.{touch_within}
 use Rattle.ve_site.proofs.TakenLemmas.{committed_runs, has_taken, may_take_next}
 
@@ -94,18 +96,11 @@ one_more k m = let e = suc-mul k m in omega (arith, e)
 parts_of : (a b m : ℕ) → (a + b) * m ≡ a * m + b * m
 parts_of a b m = add-mul a b m
 
-more_trees : (a b m : ℕ) → a ≤ b → a * m ≤ b * m
-more_trees a b m h = mul-le-mul_right m h
-
 -- ---- transactions performed
 
 insert-append : (ts us : List Transaction) → inserted_by (ts ++ us) ≡ inserted_by ts + inserted_by us
 insert-append [] us = omega arith
 insert-append (t ∷ ts) us = let rest = insert-append ts us in omega arith
-
-steps-append : (ts us : List Transaction) (items : List PlainItem) → steps_after (ts ++ us) items ≡ steps_after ts items + steps_after us (replay ts items)
-steps-append [] us items = omega arith
-steps-append (t ∷ ts) us items = let rest = steps-append ts us (edited t items) in omega (arith, rest)
 
 copy_within : (ts : List Transaction) (items : List PlainItem) (n : ℕ) → length items ≤ n → steps_of_copy ts items ≤ each n
 copy_within [] items n small = omega arith
@@ -130,7 +125,7 @@ back_within (t ∷ ts) items n sound run small =
     let new = edited t items in
     let next = replay_within (t ∷ []) items (run.0, tt) in
     let rest = back_within ts new n (sound_after (t ∷ []) items sound (run.0, tt)) run.1 (omega (arith, next, small)) in
-    let parts = steps-append (reversal ts) (inverse t ∷ []) (replay ts new) in
+    let parts = steps_of_both (reversal ts) (inverse t ∷ []) (replay ts new) in
     let sound_next = sound_after (t ∷ []) items sound (run.0, tt) in
     let there : replay (reversal ts) (replay ts new) ≡ new = (reversal_undoes ts new sound_next.lawful sound_next.apart run.1).back in
     let last : steps_after (inverse t ∷ []) (replay (reversal ts) (replay ts new)) ≤ each n =
@@ -210,12 +205,6 @@ module _ (foreign : Parcel) (s : Site) (stands : Stands s) (run : AllRun foreign
   committed_run : AllRun j.committed stay
   committed_run = subst (AllRun j.committed) left (committed_runs foreign s stands run)
 
-  -- the transactions of the take lead to the list of the site that took it
-  taking_leads : replay (taking_one foreign s) s.replica.items ≡ (take_entry foreign s).replica.items
-  taking_leads =
-      replay-append (reversal gone) j.committed s.replica.items
-      ∙ (ap (replay j.committed) (back ∙ sym left) ∙ sym (items_performed j.committed (all_reverted dropped s.replica)))
-
   taken_within : (n : ℕ) → length floor + (inserted_by foreign + inserted_by (flattened own)) ≤ n →
       steps_after (taking_one foreign s) s.replica.items ≤ (length gone + length foreign) * each n
   taken_within n small =
@@ -229,22 +218,19 @@ module _ (foreign : Parcel) (s : Site) (stands : Stands s) (run : AllRun foreign
       let second = made_within j.committed stay n sound_there.lawful committed_run (omega (arith, small, all, grown, inserted_same)) in
       let second_here : steps_after j.committed (replay (reversal gone) s.replica.items) ≤ length foreign * each n =
       subst (λ l. steps_after j.committed l ≤ length foreign * each n) (sym back) (subst (λ k. steps_after j.committed stay ≤ k * each n) alike.1 second) in
-      let parts = steps-append (reversal gone) j.committed s.replica.items in
+      let parts = steps_of_both (reversal gone) j.committed s.replica.items in
       let both = parts_of (length gone) (length foreign) (each n) in
       omega (arith, first_here, second_here, parts, both)
 
-  pending_after : parcels (pending (take_entry foreign s)) ≡ j.kept
-  pending_after = ap parcels (take-append-drop (length s.sent) _) ∙ parcels-noted _ j.kept
-
   counts_after : length (flattened (parcels (pending (take_entry foreign s)))) ≡ length (flattened kept)
-  counts_after = ap (λ ps. length (flattened ps)) pending_after ∙ (inserted_alike (flattened j.kept) (flattened kept) same_inserted.1).1
+  counts_after = ap (λ ps. length (flattened ps)) (pending_after foreign s) ∙ (inserted_alike (flattened j.kept) (flattened kept) same_inserted.1).1
 
   longest_after : (entries : List Parcel) → longest_of entries (take_entry foreign s) ≤ longest_of (foreign ∷ entries) s
   longest_after entries =
       let ground_next : length (ground_of (take_entry foreign s)) ≡ length (replay foreign floor) = ap (λ (l : List PlainItem). length l) (has_taken foreign s stands run).ground in
       let grown = replay_within foreign floor run in
       let fewer : inserted_by (flattened (parcels (pending (take_entry foreign s)))) ≡ inserted_by (flattened kept) =
-      ap (λ ps. inserted_by (flattened ps)) pending_after ∙ (inserted_alike (flattened j.kept) (flattened kept) same_inserted.1).0 in
+      ap (λ ps. inserted_by (flattened ps)) (pending_after foreign s) ∙ (inserted_alike (flattened j.kept) (flattened kept) same_inserted.1).0 in
       let all = inserts in
       let both = insert-append foreign (flattened entries) in
       omega (arith, ground_next, grown, fewer, all, both)
@@ -266,8 +252,8 @@ all_within (entry ∷ entries) s n stands run small =
     let longer = longest_after entry s stands may.run entries in
     let rest = all_within entries next n (has_taken entry s stands may.run).stands may.others_run (omega (arith, small, longer)) in
     let rest_here : steps_after (taking_all entries next) (replay (taking_one entry s) s.replica.items) ≤ changes_of entries next * each n =
-    subst (λ l. steps_after (taking_all entries next) l ≤ changes_of entries next * each n) (sym (taking_leads entry s stands may.run)) rest in
-    let parts = steps-append (taking_one entry s) (taking_all entries next) s.replica.items in
+    subst (λ l. steps_after (taking_all entries next) l ≤ changes_of entries next * each n) (one_replayed entry s) rest in
+    let parts = steps_of_both (taking_one entry s) (taking_all entries next) s.replica.items in
     let out = length (gone entry s stands may.run) in
     let stays = counts_after entry s stands may.run in
     let all = counts entry s stands may.run in
