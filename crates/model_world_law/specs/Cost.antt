@@ -1,7 +1,7 @@
 -- How many steps a line may take. A step makes a node of a linked tree, lets one go, or writes one
 -- field of one. It is said by the nodes of the model's trees alone: how many a list's tree has, and
 -- how many a transaction touches.
-use Rattle.std.specs.Prelude.{ℕ, ◌+◌, ◌*◌, nat_le, nat_lt, Bool, true, ◌||◌, if◌then◌else◌, List, [], ◌∷◌, ◌++◌, length, drop, slice_get, Option, Some, None, Result, Ok, Err}
+use Rattle.std.specs.Prelude.{ℕ, ◌+◌, ◌*◌, nat_le, nat_lt, Bool, true, false, ◌||◌, if◌then◌else◌, List, [], ◌∷◌, ◌++◌, length, drop, slice_get, Option, Some, None, Result, Ok, Err}
 use Rattle.ve_base.specs.Limits.{max_line}
 use Rattle.model_items.specs.declared.plain_item.PlainItem.{PlainItem}
 use Rattle.model_items.specs.Tree.{node_count, tree_of}
@@ -36,11 +36,11 @@ use Rattle.model_world.specs.World.{World, Closed, Open}
 
 -- a list's tree made from nothing: at most eight steps a node, and sixteen more
 abbrev pub cost_of_tree : List PlainItem → ℕ
-cost_of_tree items = 8 * (node_count (tree_of items) + 2)
+cost_of_tree items = 8 * node_count (tree_of items) + 16
 
 -- a transaction: at most eight for each node that it touches, and sixteen more
 abbrev pub cost_of_transaction : Transaction → List PlainItem → ℕ
-cost_of_transaction t items = 8 * (touch t items + 2)
+cost_of_transaction t items = 8 * touch t items + 16
 
 -- transactions, one after the other
 abbrev pub cost_of_transactions : List Transaction → List PlainItem → ℕ
@@ -70,25 +70,22 @@ erasing r (Err refusal) = []
 erasing r (Ok s) = made_of (change_on r (change.Remove (lower s) (higher s)))
 
 -- the last of a site's entries that are not sent, taken back
-abbrev pub undoing : List Entry → List Transaction
+abbrev pub undoing : List Entry → Parcel
 undoing [] = []
-undoing (e ∷ es) = let p = init_and_last e es in reversal p.1.txs
+undoing (e ∷ es) = reversal (init_and_last e es).1.txs
 
 -- the first of those that it undid, performed again
-abbrev pub redoing : List Parcel → List Transaction
+abbrev pub redoing : List Parcel → Parcel
 redoing [] = []
 redoing (p ∷ ps) = p
 
--- an entry of another site: the pending ones that are dropped for it are taken back, and it is
--- performed over those that are kept
-abbrev pub taking_one : Parcel → Site → List Transaction
-taking_one foreign s =
-    let j = join_entries foreign (parcels (pending s)) in
-    reversal (flattened (parcels (drop (length j.kept) (pending s)))) ++ j.committed
-
+-- entries of another site, in turn: the pending ones that are dropped for an entry are taken back,
+-- and it is performed over those that are kept
 abbrev pub taking_all : List Parcel → Site → List Transaction
 taking_all [] s = []
-taking_all (entry ∷ entries) s = taking_one entry s ++ taking_all entries (take_entry entry s)
+taking_all (entry ∷ entries) s =
+    let j = join_entries entry (parcels (pending s)) in
+    reversal (flattened (parcels (drop (length j.kept) (pending s)))) ++ (j.committed ++ taking_all entries (take_entry entry s))
 
 -- the site's next feed; the answer to what it sent changes no list
 abbrev pub taking : List SiteFeed → Site → List Transaction
