@@ -1,3 +1,4 @@
+pub mod CostLemmas
 pub mod TurnLemmas
 pub mod DraftLemmas
 pub mod StopLemmas
