@@ -1,5 +1,5 @@
 // A site.
-ghost use Rattle.std.specs.Prelude.{◌≡◌, ◌≤◌, ◌+◌, ◌==◌, if◌then◌else◌, List, [], ◌∷◌, Ok, length, ◌↔◌, IsTrue, IfOk, IfErr, OnOk, OnErr};
+ghost use Rattle.std.specs.Prelude.{◌≡◌, ◌≢◌, ◌≤◌, ◌+◌, ◌==◌, if◌then◌else◌, List, [], ◌∷◌, Ok, length, ◌↔◌, IsTrue, IfOk, IfErr, OnOk, OnErr};
 ghost use Rattle.model_change.specs.Transaction.{Transaction, InsertedApart};
 ghost use Rattle.model_site.specs.Entries.{entry_of, parcels, reverted};
 ghost use Rattle.model_site.specs.Replica.{all_performed};
@@ -164,6 +164,7 @@ impl Site {
             ≤ steps.old
             + steps_after (drafted self.old.site.replica.store draft.now ∷ [])
             self.old.site.replica.items }
+        ensures unstepped { IfErr result (λ why. why ≢ EditFault.Memory → steps.new ≡ steps.old) }
     {
         if self.history.reserve().is_err() {
             return Err(EditFault::Memory);

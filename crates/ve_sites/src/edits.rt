@@ -1,5 +1,5 @@
 // Turns of one site by itself.
-ghost use Rattle.std.specs.Prelude.{◌≡◌, ◌≤◌, ◌<◌, ◌+◌, ◌∷◌, [], Ok, List, drop, length, IfOk, IfErr, OnOk, OnErr};
+ghost use Rattle.std.specs.Prelude.{◌≡◌, ◌≢◌, ◌≤◌, ◌<◌, ◌+◌, ◌∷◌, [], Ok, List, drop, length, IfOk, IfErr, OnOk, OnErr};
 ghost use Rattle.model_change.specs.Replay.{revoke};
 ghost use Rattle.model_change.specs.Transaction.{InsertedApart};
 ghost use Rattle.model_site.specs.Refused.{edit_cause};
@@ -66,6 +66,7 @@ impl Sites {
             ≤ steps.old
             + steps_after (drafted (site_at self.old k).replica.store draft.now ∷ [])
             (site_at self.old k).replica.items }
+        ensures unstepped { IfErr result (λ why. why ≢ EditFault.Memory → steps.new ≡ steps.old) }
     {
         // its type keeps that it is in normal form, which `ops` tells
         let _ops = draft.tx.ops();

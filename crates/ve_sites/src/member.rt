@@ -91,6 +91,7 @@ impl Member {
             ≤ steps.old
             + steps_after (drafted self.old.site.replica.store draft.now ∷ [])
             self.old.site.replica.items }
+        ensures unstepped { IfErr result (λ why. why ≢ EditFault.Memory → steps.new ≡ steps.old) }
     {
         self.site.edit(draft, steps)
     }
