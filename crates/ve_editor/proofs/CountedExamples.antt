@@ -31,9 +31,9 @@ one_alone = refl
 two_on_a_copy : steps_over (typing ∷ erasing ∷ []) empty ≡ 24 + (40 + 40)
 two_on_a_copy = refl
 
--- none is made, on a copy too
-none_on_a_copy : steps_over [] empty ≡ 24
-none_on_a_copy = refl
+-- where none is made nothing is copied
+none_counts_nothing : steps_over [] empty ≡ 0
+none_counts_nothing = refl
 
 -- without the copy
 only_transactions : steps_after (typing ∷ erasing ∷ []) empty ≡ 40 + 40

@@ -44,13 +44,13 @@ one_within t same ts items now after is only took =
     subst (λ l. after ≤ now + steps_over l items) (sym only)
     (more_than after now (steps_of t items) 0 (subst (λ u. after ≤ now + steps_of u items) is took))
 
--- not one alone
+-- more than one
 abbrev pub AreSeveral : List Transaction → Type 0
-AreSeveral ts = (t : Transaction) → ts ≡ t ∷ [] → ⊥
+AreSeveral ts = 2 ≤ length ts
 
 copy_counted : (ts : List Transaction) (items : List PlainItem) → AreSeveral ts → steps_of_copy ts items ≡ most_steps items
-copy_counted [] items several = refl
-copy_counted (t ∷ []) items several = absurd (several t refl)
+copy_counted [] items several = absurd (omega (arith, several))
+copy_counted (t ∷ []) items several = absurd (omega (arith, several))
 copy_counted (t ∷ u ∷ ts) items several = refl
 
 -- a copy, and the transactions on it
@@ -64,12 +64,18 @@ pub copy_within : (ts : List Transaction) (items : List PlainItem) (now after : 
 copy_within ts items now after several h =
     subst (λ n. after ≤ now + (n + steps_after ts items)) (sym (copy_counted ts items several)) (and_more now after (most_steps items) (steps_after ts items) h)
 
-pub mapped_several : {A : Type 0} (f : A → Transaction) (xs : List A) → (length xs ≡ 1 → ⊥) → AreSeveral (map f xs)
-mapped_several f xs several t e = several (omega (arith, ap (λ (l : List Transaction). length l) e, length-map xs f))
+-- neither none nor one
+are_two : {A : Type 0} (xs : List A) → (length xs ≡ 0 → ⊥) → (length xs ≡ 1 → ⊥) → 2 ≤ length xs
+are_two [] some more = absurd (some refl)
+are_two (x ∷ []) some more = absurd (more refl)
+are_two (x ∷ y ∷ xs) some more = omega arith
+
+pub mapped_several : {A : Type 0} (f : A → Transaction) (xs : List A) → (length xs ≡ 0 → ⊥) → (length xs ≡ 1 → ⊥) → AreSeveral (map f xs)
+mapped_several f xs some more = let two = are_two xs some more in omega (arith, two, length-map xs f)
 
 reversed_long : (ts : List Transaction) → length (reversal ts) ≡ length ts
 reversed_long [] = refl
 reversed_long (t ∷ ts) = omega (arith, length-append (reversal ts) (inverse t ∷ []), reversed_long ts)
 
-pub reversal_several : {A : Type 0} (f : A → Transaction) (xs : List A) → (length xs ≡ 1 → ⊥) → AreSeveral (reversal (map f xs))
-reversal_several f xs several t e = several (omega (arith, ap (λ (l : List Transaction). length l) e, reversed_long (map f xs), length-map xs f))
+pub reversal_several : {A : Type 0} (f : A → Transaction) (xs : List A) → (length xs ≡ 0 → ⊥) → (length xs ≡ 1 → ⊥) → AreSeveral (reversal (map f xs))
+reversal_several f xs some more = let two = are_two xs some more in omega (arith, two, reversed_long (map f xs), length-map xs f)

@@ -14,9 +14,9 @@ abbrev pub steps_after : List Transaction → List PlainItem → ℕ
 steps_after [] items = 0
 steps_after (t ∷ ts) items = steps_of t items + steps_after ts (edited t items)
 
--- those of a copy of the page, on which transactions are made unless there is one alone
+-- those of a copy of the page, on which transactions are made where there are several
 abbrev pub steps_of_copy : List Transaction → List PlainItem → ℕ
-steps_of_copy [] items = most_steps items
+steps_of_copy [] items = 0
 steps_of_copy (t ∷ []) items = 0
 steps_of_copy (t ∷ u ∷ ts) items = most_steps items
 

@@ -34,10 +34,10 @@ use ve_tx::{Draft, Entry, Parcel, Transaction, TxList};
 #[derive(Drop)]
 pub struct Editor {
     list: Linear,
-    store: Store,
+    pub(crate) store: Store,
     tree: Tree,
     selection: Selection,
-    alloc: Global,
+    pub(crate) alloc: Global,
 }
 
 impl Model for Editor {
@@ -188,7 +188,7 @@ impl Editor {
 
     /// Makes a transaction of a reversal, which applies and leaves a lawful list. An `Err` changes
     /// nothing.
-    fn put_back<L: Ledger>(&mut self, tx: &Transaction, steps: &mut Steps<L>) -> Result<(), Memory>
+    pub(crate) fn put_back<L: Ledger>(&mut self, tx: &Transaction, steps: &mut Steps<L>) -> Result<(), Memory>
         requires cites { TxCites self.old.store tx.now }
         requires applies { Applies (by_value self.old.store tx.now) self.old.items }
         requires lawful { Lawful (edited (by_value self.old.store tx.now) self.old.items) }
@@ -226,7 +226,7 @@ impl Editor {
 
     /// Cuts the values of an entry off the store, where they are the last of it; before it was
     /// taken back the store had so many.
-    fn cut_back(&mut self, entry: &Entry, was: usize)
+    pub(crate) fn cut_back(&mut self, entry: &Entry, was: usize)
         requires distinct { AreDistinct self.old.store }
         requires uncited { IsUncited (entry_by_value self.old.store entry.now) was self.old }
         ensures { self.new ≡ record self.old {
@@ -238,30 +238,7 @@ impl Editor {
         }
     }
 
-    /// Makes the transactions of a reversal, from the inverse of the last one to that of the first.
-    /// An `Err` may leave some of them made.
-    fn put_all_back<L: Ledger>(
-        &mut self,
-        txs: &[Transaction],
-        steps: &mut Steps<L>,
-    ) -> Result<(), Memory>
-        requires cites { All (TxCites self.old.store) txs.now }
-        requires stands { AllStand (reversal_over self.old.store txs.now) self.old.items }
-        ensures page { OnOk result (
-            self.new ≡ all_put_back (reversal_over self.old.store txs.now) self.old) }
-        ensures counted { steps.old ≤ steps.new }
-        ensures steps { steps.new
-            ≤ steps.old + steps_after (reversal_over self.old.store txs.now) self.old.items }
-    {
-        for n in 0..txs.len() {
-            let tx = &txs[txs.len() - 1 - n];
-            let back = tx.inverse(self.alloc)?;
-            self.put_back(&back, steps)?;
-        }
-        Ok(())
-    }
-
-    /// Makes the reversal of transactions. That of one is made in place, and that of more on a
+    /// Makes the reversal of transactions. That of one is made in place, and that of several on a
     /// copy, so that want of memory in the second leaves nothing of the first.
     fn put_entry_back<L: Ledger>(
         &mut self,
@@ -277,6 +254,9 @@ impl Editor {
         ensures steps { steps.new
             ≤ steps.old + steps_over (reversal_over self.old.store txs.now) self.old.items }
     {
+        if txs.is_empty() {
+            return Ok(());
+        }
         if txs.len() == 1 {
             let back = txs[0].inverse(self.alloc)?;
             return self.put_back(&back, steps);
@@ -289,7 +269,7 @@ impl Editor {
 
     /// Performs a transaction that cites a list of values, applies and leaves a lawful list, and
     /// gives it as an entry keeps it. An `Err` changes nothing.
-    fn perform_other<L: Ledger>(
+    pub(crate) fn perform_other<L: Ledger>(
         &mut self,
         tx: &Transaction,
         values: &[Value],
@@ -337,35 +317,8 @@ impl Editor {
     }
 
     /// Performs transactions that cite a list of values, one after the other, and gives them as an
-    /// entry keeps them. An `Err` may leave some of them performed.
-    fn perform_others<L: Ledger>(
-        &mut self,
-        txs: &[Transaction],
-        values: &[Value],
-        steps: &mut Steps<L>,
-    ) -> Result<TxList, Memory>
-        requires cites { All (TxCites values.now) txs.now }
-        requires stands { AllStand (map (by_value values.now) txs.now) self.old.items }
-        ensures page { OnOk result (
-            self.new ≡ all_performed (map (by_value values.now) txs.now) self.old) }
-        ensures txs { IfOk result (λ kept.
-            map (by_value self.new.store) kept
-            ≡ all_filled (map (by_value values.now) txs.now) self.old.items) }
-        ensures cites { IfOk result (λ kept. All (TxCites self.new.store) kept) }
-        ensures counted { steps.old ≤ steps.new }
-        ensures steps { steps.new
-            ≤ steps.old + steps_after (map (by_value values.now) txs.now) self.old.items }
-    {
-        let mut kept = TxList::new(self.alloc);
-        for tx in txs {
-            let own = self.perform_other(tx, values, steps)?;
-            kept.append(own)?;
-        }
-        Ok(kept)
-    }
-
-    /// The same, and an `Err` changes nothing. One transaction is performed in place, and more on a
-    /// copy, so that want of memory in the second leaves nothing of the first.
+    /// entry keeps them. One is performed in place, and several on a copy, so that want of memory in
+    /// the second leaves nothing of the first. An `Err` changes nothing.
     fn admit_all<L: Ledger>(
         &mut self,
         txs: &[Transaction],
@@ -385,6 +338,9 @@ impl Editor {
         ensures steps { steps.new
             ≤ steps.old + steps_over (map (by_value values.now) txs.now) self.old.items }
     {
+        if txs.is_empty() {
+            return Ok(TxList::new(self.alloc));
+        }
         if txs.len() == 1 {
             return self.perform_other(&txs[0], values, steps);
         }

@@ -37,6 +37,7 @@
 
 mod editor;
 mod faults;
+mod in_place;
 mod perform;
 mod prepare;
 mod selected;

@@ -109,7 +109,7 @@ steps-append [] us items = omega arith
 steps-append (t ∷ ts) us items = let rest = steps-append ts us (edited t items) in omega (arith, rest)
 
 copy_within : (ts : List Transaction) (items : List PlainItem) (n : ℕ) → length items ≤ n → steps_of_copy ts items ≤ each n
-copy_within [] items n small = steps_within items n small
+copy_within [] items n small = omega arith
 copy_within (t ∷ []) items n small = omega arith
 copy_within (t ∷ u ∷ ts) items n small = steps_within items n small
 

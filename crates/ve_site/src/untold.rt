@@ -94,6 +94,7 @@ impl Untold {
         ensures noted { self.new ≡ with_patches (changed_at at op.now) self.old }
         ensures after { result ≡ after_op at op.now }
     {
+        // its type keeps that there is room for one more, which a look at them tells
         let _within = &self.patches;
         match op {
             Op::Retain(count) => at + *count,

@@ -76,6 +76,9 @@ fn cut_out(nodes: &mut Vec<NodeId>, from: usize, to: usize)
     requires within { to ≤ length nodes.old.items }
     ensures { nodes.new.items ≡ take from nodes.old.items ++ drop to nodes.old.items }
 {
+    if from == to {
+        return;
+    }
     let len = nodes.len();
     nodes[from..].rotate_left(to - from);
     nodes.truncate(len - (to - from));
@@ -213,7 +216,9 @@ impl Landmarks {
         let high = low.max(ends_before(&self.gaps, to.max(1)));
         cut_out(&mut self.nodes, low, high);
         close_up(&mut self.gaps, low, high, to - from, len);
-        rank_from(&mut self.ranks, &self.nodes, low);
+        // where none goes, those behind have the numbers that they had
+        let first = if low < high { low } else { self.nodes.len() };
+        rank_from(&mut self.ranks, &self.nodes, first);
         low.saturating_sub(1)
     }
 }

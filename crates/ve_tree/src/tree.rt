@@ -1,12 +1,14 @@
 // The tree of a list.
-ghost use Rattle.std.specs.Prelude.{◌≡◌, ◌+◌, ◌*◌, ◌≤◌, Some, IfOk, option_map, length};
+ghost use Rattle.std.specs.Prelude.{◌≡◌, ◌+◌, ◌*◌, ◌≤◌, List, Some, IfOk, option_map, length};
 ghost use Rattle.model_items.specs.Law.{Lawful};
+ghost use Rattle.model_items.specs.declared.plain_item.PlainItem.{PlainItem};
 ghost use Rattle.ve_arena.specs.Arena.{IsLive};
 ghost use Rattle.ve_tree.specs.Links.{number_of};
-ghost use Rattle.ve_tree.specs.IsTree.{unvalued};
+ghost use Rattle.ve_tree.specs.IsTree.{IsTree, unvalued};
 ghost use Rattle.ve_tree.specs.Places.{sort_of, IsNodeRound, OfItsPlace, IsBranch};
 ghost use Rattle.ve_tree.specs.Spots.{IsSpotOf};
 ghost use Rattle.ve_tree.specs.TreeOf.{IsTreeOf, most_steps, HasOffset, HasNode};
+ghost use Rattle.ve_tree.specs.Way.{IsSomeTree};
 
 use crate::build::read_children;
 use crate::landmarks::Landmarks;
@@ -64,6 +66,26 @@ impl Tree {
         Ok(Tree {
             arena,
             root,
+            landmarks,
+        })
+    }
+
+    /// A copy, with each node under its number, and with landmarks of its own. Nothing is linked
+    /// anew, so it takes no step.
+    pub fn copy(&self, alloc: Global) -> Result<Tree, Memory>
+        requires { IsSomeTree self.now.arena self.now.root }
+        ensures arena { IfOk result (λ copy. copy.arena ≡ self.now.arena) }
+        ensures root { IfOk result (λ copy. copy.root ≡ self.now.root) }
+        ensures tree { IfOk result (λ copy.
+            (items : List PlainItem)
+            → IsTree self.now.arena self.now.root items
+            → IsTreeOf copy items) }
+    {
+        let arena = self.arena.copy()?;
+        let landmarks = landmarks_of(alloc, &arena, self.root);
+        Ok(Tree {
+            arena,
+            root: self.root,
             landmarks,
         })
     }
