@@ -15,7 +15,7 @@ use Rattle.model_page.specs.PageItems.{Opened}
 use Rattle.model_site.specs.Entries.{Entry, Parcel, parcels}
 use Rattle.model_site.specs.Joined.{join_entries}
 use Rattle.model_site.specs.Replica.{Replica, performed}
-use Rattle.model_site.specs.Session.{Ack, Foreign, Member, Session, SiteFeed}
+use Rattle.model_site.specs.Session.{Ack, Foreign, Member, SiteFeed}
 use Rattle.model_site.specs.Site.{Site, entries_of, init_and_last, pending}
 use Rattle.model_site.specs.Take.{take_entry}
 use Rattle.model_world.specs.declared.command.Command.{Command}

@@ -1,5 +1,5 @@
 -- What the layers below count is no more than a line may take.
-use Rattle.std.proofs.Common.{◌≡◌, ◌≤◌, ◌+◌, ◌*◌, ℕ, Bool, true, false, List, [], ◌∷◌, ◌++◌, length, refl, ap, sym, subst, ◌∙◌, arith, le-leb}
+use Rattle.std.proofs.Common.{◌≡◌, ◌≤◌, ◌+◌, ◌*◌, ℕ, true, false, List, [], ◌∷◌, length, refl, ap, sym, subst, ◌∙◌, arith, le-leb}
 use Rattle.std.specs.Prelude.{nat_le, nat_lt, None, Result, Ok, Err}
 use Rattle.model_change.specs.Join.{RangeConflict}
 use Rattle.model_change.specs.Replay.{reversal, revoke}
@@ -9,8 +9,8 @@ use Rattle.model_page.specs.PageItems.{Opened}
 use Rattle.model_site.specs.Entries.{Entry, Parcel}
 use Rattle.model_site.specs.Refused.{edit_cause}
 use Rattle.model_site.specs.Replica.{Replica}
-use Rattle.model_site.specs.Session.{Ack, Foreign, Member, SiteFeed}
-use Rattle.model_site.specs.Site.{Site, entries_of, init_and_last}
+use Rattle.model_site.specs.Session.{Member}
+use Rattle.model_site.specs.Site.{entries_of, init_and_last}
 use Rattle.model_world.specs.declared.command.Request.TheVariants as request
 use Rattle.model_world.specs.declared.edit_command.EditCommand.{EditCommand}
 use Rattle.model_world.specs.declared.refusal.Refusal.{Refusal}
@@ -19,9 +19,9 @@ use Rattle.model_world_law.specs.Cost as cost
 use Rattle.model_world_law.specs.Cost.{cost_of_made, cost_of_opening, cost_of_request, cost_of_transactions, cost_of_tree, made_in_turn, made_of}
 use Rattle.ve_editor.specs.Counted.{steps_after, steps_over}
 use Rattle.ve_site.specs.Counted as counted
-use Rattle.ve_site.specs.Taking.{steps_of_take}
+use Rattle.ve_site.specs.Taking as taken
 use Rattle.ve_sites.specs.Turns as turns
-use Rattle.ve_sites.specs.Turns.{back_of, steps_of_next, steps_of_turn}
+use Rattle.ve_sites.specs.Turns.{back_of}
 use Rattle.ve_tree.specs.TreeOf.{most_steps}
 
 -- ---- trees and transactions
@@ -29,13 +29,13 @@ use Rattle.ve_tree.specs.TreeOf.{most_steps}
 tree_is : (items : List PlainItem) → most_steps items ≡ cost_of_tree items
 tree_is items = omega arith
 
-all_are : (ts : List Transaction) (items : List PlainItem) → steps_after ts items ≡ cost_of_transactions ts items
+pub all_are : (ts : List Transaction) (items : List PlainItem) → steps_after ts items ≡ cost_of_transactions ts items
 all_are [] items = refl
 all_are (t ∷ ts) items = let later = all_are ts (edited t items) in omega (arith, later)
 
 -- what is made on a copy only where it is several
 pub over_within : (ts : List Transaction) (items : List PlainItem) → steps_over ts items ≤ cost_of_made (nat_le 2 (length ts)) ts items
-over_within [] items = ?
+over_within [] items = omega arith
 over_within (t ∷ []) items = omega arith
 over_within (t ∷ u ∷ ts) items =
     let several : nat_le 2 (length (t ∷ u ∷ ts)) ≡ true = le-leb 2 (length (t ∷ u ∷ ts)) (omega arith) in
@@ -98,6 +98,16 @@ redo_within committed m = by m.site.undone
     by [] = over_within [] m.site.replica.items
     by (p ∷ ps) = over_within p m.site.replica.items
 
+abbrev taken_back : Result (List Transaction) RangeConflict → List Transaction
+taken_back back = elim back [
+  | Err clash ↦ []
+  | Ok ts ↦ ts
+]
+
+is_back : (back : Result (List Transaction) RangeConflict) → taken_back back ≡ back_of back
+is_back (Err clash) = refl
+is_back (Ok ts) = refl
+
 pub revoke_within : (committed : List Parcel) (m : Member) (i : ℕ) → nat_lt i m.site.seen ≡ true →
     steps_over (turns.revoking committed i m.site) m.site.replica.items ≤ cost_of_request committed m (request.Revoke i)
 revoke_within committed m i seen =
@@ -106,24 +116,3 @@ revoke_within committed m i seen =
     ap (λ b. elim b as (λ _. List Transaction) [ false ↦ [] | true ↦ taken_back (revoke (entries_of committed s) i) ]) seen ∙ is_back (revoke (entries_of committed s) i) in
     subst (λ ts. steps_over (turns.revoking committed i s) s.replica.items ≤ cost_of_made (nat_le 2 (length ts)) ts s.replica.items) (sym made)
     (over_within (turns.revoking committed i s) s.replica.items)
-  where
-    abbrev taken_back : Result (List Transaction) RangeConflict → List Transaction
-    taken_back back = elim back [
-      | Err clash ↦ []
-      | Ok ts ↦ ts
-    ]
-
-    is_back : (back : Result (List Transaction) RangeConflict) → taken_back back ≡ back_of back
-    is_back (Err clash) = refl
-    is_back (Ok ts) = refl
-
--- ---- feeds
-
-pub take_within : (committed : List Parcel) (m : Member) → steps_of_turn m ≤ cost_of_request committed m request.Take
-take_within committed m = by m.feeds
-  where
-    by : (feeds : List SiteFeed) → steps_of_next feeds m.site
-        ≤ cost_of_made (cost.is_on_copy request.Take feeds (cost.taking feeds m.site)) (cost.taking feeds m.site) m.site.replica.items
-    by [] = omega arith
-    by (Ack accepted ∷ later) = omega arith
-    by (Foreign entries ∷ later) = ?
