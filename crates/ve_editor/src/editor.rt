@@ -85,8 +85,9 @@ impl Editor {
         })
     }
 
-    /// An editor of equal list, store and selection. Its tree is built anew, in at most as many
-    /// steps as `new` may take.
+    /// An editor of equal list, store and selection. Its tree is copied node by node. That links
+    /// nothing anew, but the clause leaves it the steps of a tree that is built: so a body that
+    /// copies the page where it need not exceeds its own bound.
     pub fn copy<L: Ledger>(&self, steps: &mut Steps<L>) -> Result<Editor, Memory>
         ensures ok { IfOk result (λ copy. copy ≡ self.now) }
         ensures counted { steps.old ≤ steps.new }
@@ -94,9 +95,14 @@ impl Editor {
     {
         let list = self.list.copy(self.alloc)?;
         let store = self.store.copy(self.alloc)?;
-        let mut copy = Editor::new(self.alloc, list, store, steps)?;
-        copy.selection = self.selection;
-        Ok(copy)
+        let tree = self.tree.copy(self.alloc)?;
+        Ok(Editor {
+            list,
+            store,
+            tree,
+            selection: self.selection,
+            alloc: self.alloc,
+        })
     }
 
     /// Lends list, tree and store, to be read.

@@ -4,7 +4,8 @@
 //!
 //! Proved: but for want of memory, a draft is performed as the model does it, or the first cause is
 //! named. An entry is taken back and another's parcel performed as the model does it, and copies
-//! are equal. Where a call fails nothing changes. Each counts at most eight steps for each node
+//! are equal. Where a call fails nothing changes, but for the two that work in place: after an
+//! `Err` of theirs nothing is said of the editor. Each counts at most eight steps for each node
 //! that a transaction touches, and sixteen more.
 //!
 //! The view of an `Editor` is the model's `Replica` (model_site), by value. `perform` is the
@@ -32,7 +33,9 @@
 //! stays cited. So its one refusal is want of memory. Values are cut off after the last reversal.
 //!
 //! One transaction counts no step of a copy; several count the tree of the copy and of the lists
-//! that they make. So an editor that copied the page for each undo wouldn't meet the bound.
+//! that they make. So an editor that copied the page for each undo wouldn't meet the bound. Who
+//! makes many entries at once copies the page once, and calls `admit_in_place` and
+//! `revert_in_place` on the copy, which count no more copies.
 #![tactic(auto)]
 
 mod editor;

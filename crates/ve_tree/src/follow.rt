@@ -24,7 +24,9 @@ impl Tree {
             → IsTree self.old.arena self.old.root items
             → IsTreeOf self.new items }
     {
-        let k = self.landmarks.cut(self.root, from, to, len);
+        let was = self.landmarks.len();
+        let (k, behind) = self.landmarks.cut(self.root, from, to, len);
         thicken(&mut self.landmarks, &self.arena, self.root, k);
+        self.landmarks.rank(k, was, behind);
     }
 }

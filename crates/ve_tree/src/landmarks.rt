@@ -19,11 +19,13 @@ fn make_place(ranks: &mut Vec<usize>, place: usize) -> Result<(), Memory>
     Ok(())
 }
 
-/// Notes where the nodes from one on stand, as far as there is room for their numbers.
-fn rank_from(ranks: &mut Vec<usize>, nodes: &[NodeId], first: usize) {
-    for k in first..nodes.len() {
-        if let Some(rank) = ranks.get_mut(nodes[k].0) {
-            *rank = k;
+/// Notes where the nodes from one up to another stand, as far as there is room for their numbers.
+fn rank(ranks: &mut [usize], nodes: &[NodeId], first: usize, end: usize) {
+    for k in first..end {
+        if let Some(n) = nodes.get(k)
+            && let Some(place) = ranks.get_mut(n.0)
+        {
+            *place = k;
         }
     }
 }
@@ -197,16 +199,35 @@ impl Landmarks {
         self.nodes.insert(k, n)?;
         shorten(&mut self.gaps, k, gap);
         self.gaps.put_in(k, gap);
-        rank_from(&mut self.ranks, &self.nodes, k);
         Ok(())
+    }
+
+    /// How many landmarks there are.
+    pub(crate) fn len(&self) -> usize {
+        self.nodes.len()
+    }
+
+    /// Notes where landmarks stand, from one on, where there were so many before some were taken
+    /// out and put in, and so many stand behind these. Those behind are noted anew only where their
+    /// numbers changed.
+    pub(crate) fn rank(&mut self, first: usize, was: usize, behind: usize)
+        ensures { self.new ≡ self.old }
+    {
+        let count = self.nodes.len();
+        let end = if count == was {
+            count.saturating_sub(behind)
+        } else {
+            count
+        };
+        rank(&mut self.ranks, &self.nodes, first, end);
     }
 
     /// Takes out the landmarks that begin between two positions, and moves those that begin later:
     /// back by the distance of the two, and on by `len` items. The root stays. What else begins at
     /// the list's start goes where the first position is there. It sees by itself that there is a
     /// gap for each node. Gives the number of the last one before the first position, from where
-    /// the gap is to be filled again.
-    pub(crate) fn cut(&mut self, root: NodeId, from: usize, to: usize, len: usize) -> usize
+    /// the gap is to be filled again, and how many stand behind it.
+    pub(crate) fn cut(&mut self, root: NodeId, from: usize, to: usize, len: usize) -> (usize, usize)
         requires order { from ≤ to }
         requires fits { length self.old.nodes ≡ length self.old.gaps
             → sum self.old.gaps + len < 2 ^ 64 }
@@ -216,9 +237,6 @@ impl Landmarks {
         let high = low.max(ends_before(&self.gaps, to.max(1)));
         cut_out(&mut self.nodes, low, high);
         close_up(&mut self.gaps, low, high, to - from, len);
-        // where none goes, those behind have the numbers that they had
-        let first = if low < high { low } else { self.nodes.len() };
-        rank_from(&mut self.ranks, &self.nodes, first);
-        low.saturating_sub(1)
+        (low.saturating_sub(1), self.nodes.len().saturating_sub(low))
     }
 }

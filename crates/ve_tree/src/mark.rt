@@ -152,5 +152,6 @@ pub fn landmarks_of(alloc: Global, arena: &Arena, root: NodeId) -> Landmarks
         return marks;
     };
     thicken(&mut marks, arena, root, 0);
+    marks.rank(0, 0, 0);
     marks
 }

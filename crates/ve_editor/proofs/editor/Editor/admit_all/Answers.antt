@@ -1,4 +1,5 @@
-use Rattle.std.proofs.Common.{◌≡◌, ◌≤◌, ◌+◌, List, All, IfOk, OnOk, map, refl, sym, ap, ◌∙◌, subst, arith}
+use Rattle.std.proofs.Common.{◌≡◌, ◌≤◌, ◌+◌, length, List, All, IfOk, OnOk, map, refl, sym, ap, ◌∙◌, subst, arith}
+use Rattle.std.proofs.lemmas.Bool.{eqb-false}
 use Rattle.model_site.specs.Replica.{Replica, all_filled, all_performed}
 use Rattle.ve_tx.specs.Cites.{TxCites}
 use Rattle.ve_tx.specs.Operation.{Operation, by_value}
@@ -44,15 +45,16 @@ perform_others-requires-clause-stands g c =
 
 pub returns-clause-page : goal.returns-clause-page
 returns-clause-page g c =
-    c.in_ok-kept.ensures.page ∙ ap (all_performed (map (by_value c.args.values.now) c.args.txs.now)) c.in_ok-grown.ensures.ok
+    c.grown.view_is ∙ (c.in_ok-kept.ensures.page ∙ ap (all_performed (map (by_value c.args.values.now) c.args.txs.now)) c.in_ok-grown.ensures.ok)
 
 pub returns-clause-txs : goal.returns-clause-txs
 returns-clause-txs g c =
-    c.in_ok-kept.ensures.txs
-    ∙ ap (λ (r : Replica). all_filled (map (by_value c.args.values.now) c.args.txs.now) r.items) c.in_ok-grown.ensures.ok
+    ap (λ (r : Replica). map (by_value r.store) c.in_ok-kept.kept) c.grown.view_is
+    ∙ (c.in_ok-kept.ensures.txs
+    ∙ ap (λ (r : Replica). all_filled (map (by_value c.args.values.now) c.args.txs.now) r.items) c.in_ok-grown.ensures.ok)
 
 pub returns-clause-cites : goal.returns-clause-cites
-returns-clause-cites g c = c.in_ok-kept.ensures.cites
+returns-clause-cites g c = subst (λ (r : Replica). All (TxCites r.store) c.in_ok-kept.kept) (sym c.grown.view_is) c.in_ok-kept.ensures.cites
 
 pub returns-then-txs-eq1-clause-steps : goal.returns-then-txs-eq1-clause-steps
 returns-then-txs-eq1-clause-steps g c =
@@ -64,16 +66,16 @@ returns-then-txs-eq1-clause-steps g c =
 pub returns-in_err-kept-clause-steps : goal.returns-in_err-kept-clause-steps
 returns-in_err-kept-clause-steps g c =
     let ts = map (by_value c.args.values.now) c.args.txs.now in
-    copied_within ts c.args.self.now.items c.args.steps.now c.copy.new.steps c.perform_others.new.steps (mapped_several (by_value c.args.values.now) c.args.txs.now c.if-txs-eq1.false) c.copy.ensures.steps
+    copied_within ts c.args.self.now.items c.args.steps.now c.copy.new.steps c.perform_others.new.steps (mapped_several (by_value c.args.values.now) c.args.txs.now (eqb-false (length c.args.txs.now) 0 (sym c.is_empty.ensures ∙ c.if-is_empty.false)) c.if-txs-eq1.false) c.copy.ensures.steps
     (subst (λ (q : Replica). c.perform_others.new.steps ≤ c.copy.new.steps + steps_after ts q.items) c.in_ok-grown.ensures.ok c.perform_others.ensures.steps)
 
 pub returns-clause-steps : goal.returns-clause-steps
 returns-clause-steps g c =
     let ts = map (by_value c.args.values.now) c.args.txs.now in
-    copied_within ts c.args.self.now.items c.args.steps.now c.copy.new.steps c.perform_others.new.steps (mapped_several (by_value c.args.values.now) c.args.txs.now c.if-txs-eq1.false) c.copy.ensures.steps
+    copied_within ts c.args.self.now.items c.args.steps.now c.copy.new.steps c.perform_others.new.steps (mapped_several (by_value c.args.values.now) c.args.txs.now (eqb-false (length c.args.txs.now) 0 (sym c.is_empty.ensures ∙ c.if-is_empty.false)) c.if-txs-eq1.false) c.copy.ensures.steps
     (subst (λ (q : Replica). c.perform_others.new.steps ≤ c.copy.new.steps + steps_after ts q.items) c.in_ok-grown.ensures.ok c.perform_others.ensures.steps)
 
 pub returns-in_err-grown-clause-steps : goal.returns-in_err-grown-clause-steps
 returns-in_err-grown-clause-steps g c =
     copy_within (map (by_value c.args.values.now) c.args.txs.now) c.args.self.now.items c.args.steps.now c.copy.new.steps
-    (mapped_several (by_value c.args.values.now) c.args.txs.now c.if-txs-eq1.false) c.copy.ensures.steps
+    (mapped_several (by_value c.args.values.now) c.args.txs.now (eqb-false (length c.args.txs.now) 0 (sym c.is_empty.ensures ∙ c.if-is_empty.false)) c.if-txs-eq1.false) c.copy.ensures.steps

@@ -1,4 +1,5 @@
-use Rattle.std.proofs.Common.{◌≡◌, ◌≤◌, ◌+◌, List, All, OnOk, sym, ap, ◌∙◌, subst, arith}
+use Rattle.std.proofs.Common.{◌≡◌, ◌≤◌, ◌+◌, length, List, All, OnOk, sym, ap, ◌∙◌, subst, arith}
+use Rattle.std.proofs.lemmas.Bool.{eqb-false}
 use Rattle.model_items.specs.Law.{Lawful}
 use Rattle.model_change.specs.Fault.{Applies}
 use Rattle.model_change.specs.Transaction.{edited}
@@ -56,16 +57,16 @@ returns-then-txs-eq1-clause-steps g c =
 pub returns-in_err-put_all_back-clause-steps : goal.returns-in_err-put_all_back-clause-steps
 returns-in_err-put_all_back-clause-steps g c =
     let r = c.args.self.now in
-    copied_within (reversal_over r.store c.args.txs.now) r.items c.args.steps.now c.copy.new.steps c.put_all_back.new.steps (reversal_several (by_value r.store) c.args.txs.now c.if-txs-eq1.false) c.copy.ensures.steps
+    copied_within (reversal_over r.store c.args.txs.now) r.items c.args.steps.now c.copy.new.steps c.put_all_back.new.steps (reversal_several (by_value r.store) c.args.txs.now (eqb-false (length c.args.txs.now) 0 (sym c.is_empty.ensures ∙ c.if-is_empty.false)) c.if-txs-eq1.false) c.copy.ensures.steps
     (subst (λ (q : Replica). c.put_all_back.new.steps ≤ c.copy.new.steps + steps_after (reversal_over q.store c.args.txs.now) q.items) c.in_ok-copy.ensures.ok c.put_all_back.ensures.steps)
 
 pub returns-clause-steps : goal.returns-clause-steps
 returns-clause-steps g c =
     let r = c.args.self.now in
-    copied_within (reversal_over r.store c.args.txs.now) r.items c.args.steps.now c.copy.new.steps c.put_all_back.new.steps (reversal_several (by_value r.store) c.args.txs.now c.if-txs-eq1.false) c.copy.ensures.steps
+    copied_within (reversal_over r.store c.args.txs.now) r.items c.args.steps.now c.copy.new.steps c.put_all_back.new.steps (reversal_several (by_value r.store) c.args.txs.now (eqb-false (length c.args.txs.now) 0 (sym c.is_empty.ensures ∙ c.if-is_empty.false)) c.if-txs-eq1.false) c.copy.ensures.steps
     (subst (λ (q : Replica). c.put_all_back.new.steps ≤ c.copy.new.steps + steps_after (reversal_over q.store c.args.txs.now) q.items) c.in_ok-copy.ensures.ok c.put_all_back.ensures.steps)
 
 pub returns-in_err-copy-clause-steps : goal.returns-in_err-copy-clause-steps
 returns-in_err-copy-clause-steps g c =
     let r = c.args.self.now in
-    copy_within (reversal_over r.store c.args.txs.now) r.items c.args.steps.now c.copy.new.steps (reversal_several (by_value r.store) c.args.txs.now c.if-txs-eq1.false) c.copy.ensures.steps
+    copy_within (reversal_over r.store c.args.txs.now) r.items c.args.steps.now c.copy.new.steps (reversal_several (by_value r.store) c.args.txs.now (eqb-false (length c.args.txs.now) 0 (sym c.is_empty.ensures ∙ c.if-is_empty.false)) c.if-txs-eq1.false) c.copy.ensures.steps
