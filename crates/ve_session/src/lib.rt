@@ -9,7 +9,7 @@
 //! its world. So the invariants of every world that lines lead to hold of it
 //! ([`World::lines_lead`]), and nothing is asked of its caller. In reading order:
 //!
-//! - `States`: the state that a world keeps between lines, and the `meaning` of a world as a machine;
+//! - `States`: the state that a world keeps between lines, and the machine that a world is;
 //! - `Asked`: the outcome of a command, and of a request to one of the sites;
 //! - `Opened`: the invariant of an open page; `Turning`: the invariant of a site that is asked;
 //! - `Stopped`: how a refusal of the crates below is told;
