@@ -194,7 +194,11 @@ impl Editor {
 
     /// Makes a transaction of a reversal, which applies and leaves a lawful list. An `Err` changes
     /// nothing.
-    pub(crate) fn put_back<L: Ledger>(&mut self, tx: &Transaction, steps: &mut Steps<L>) -> Result<(), Memory>
+    pub(crate) fn put_back<L: Ledger>(
+        &mut self,
+        tx: &Transaction,
+        steps: &mut Steps<L>,
+    ) -> Result<(), Memory>
         requires cites { TxCites self.old.store tx.now }
         requires applies { Applies (by_value self.old.store tx.now) self.old.items }
         requires lawful { Lawful (edited (by_value self.old.store tx.now) self.old.items) }

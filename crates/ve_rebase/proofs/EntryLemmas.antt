@@ -110,16 +110,19 @@ pub record GatheredSoFar (txs : List (List Operation)) (all : List Shifted) : Ty
   pub written : AreWritten txs all
   pub kept : map operations all ≡ txs
 
+pub gathered_more : (txs more : List (List Operation)) (all some : List Shifted) → GatheredSoFar txs all → GatheredSoFar more some → GatheredSoFar (txs ++ more) (all ++ some)
+gathered_more txs more all some h g = record {
+  shifted = All-append IsShifted all some h.shifted g.shifted;
+  written = written-append txs more all some h.written g.written;
+  kept = map-append operations all some ∙ (ap (λ l. l ++ map operations some) h.kept ∙ ap (λ l. txs ++ l) g.kept);
+}
+
 pub gathered_next : (parcels : List Parcel) (i : ℕ) (p : Parcel) (all some more : List Shifted) (txs : List (List Operation)) → i < length parcels → p ≡ get_or parcels i p → more ≡ all ++ some →
     txs ≡ p.entry.txs → GatheredSoFar txs some → GatheredSoFar (operations_of (take i parcels)) all → GatheredSoFar (operations_of (take (i + 1) parcels)) more
 gathered_next parcels i p all some more txs lt is e same g h =
     let next : operations_of (take (i + 1) parcels) ≡ operations_of (take i parcels) ++ txs =
     ap operations_of (take_more parcels i p lt ∙ ap (λ q. take i parcels ++ q ∷ []) (sym is)) ∙ (operations-more (take i parcels) p ∙ ap (λ l. operations_of (take i parcels) ++ l) (sym same)) in
-    subst (λ l. GatheredSoFar l more) (sym next) (subst (GatheredSoFar (operations_of (take i parcels) ++ txs)) (sym e) (record {
-      shifted = All-append IsShifted all some h.shifted g.shifted;
-      written = written-append (operations_of (take i parcels)) txs all some h.written g.written;
-      kept = map-append operations all some ∙ (ap (λ l. l ++ map operations some) h.kept ∙ ap (λ l. operations_of (take i parcels) ++ l) g.kept);
-    }))
+    subst (λ l. GatheredSoFar l more) (sym next) (subst (GatheredSoFar (operations_of (take i parcels) ++ txs)) (sym e) (gathered_more (operations_of (take i parcels)) txs all some h g))
 
 pub gathered_all : (parcels : List Parcel) (i : ℕ) (all : List Shifted) → length parcels ≤ i → GatheredSoFar (operations_of (take i parcels)) all → GatheredSoFar (operations_of parcels) all
 gathered_all parcels i all end h = subst (λ l. GatheredSoFar (operations_of l) all) (take_all i parcels end) h

@@ -12,4 +12,6 @@ pub mod NormalLemmas
 pub mod EntryLemmas
 pub mod UntilLemmas
 mod UnderLemmas
+mod GroupLemmas
+mod MovedLemmas
 mod UnderExamples

@@ -124,6 +124,10 @@ row_after-twice : (done : List Transaction) (one : Transaction) (r : Result (Lis
 row_after-twice done one (Ok row) = ap (λ l. Ok (l, row.1)) (sym (append_assoc done (one ∷ []) row.0))
 row_after-twice done one (Err clash) = refl
 
+length_after_one : (n : ℕ) (xs : List Shifted) (one : Shifted) → length_after n (xs ++ one ∷ []) ≡ new_size one.span
+length_after_one n [] one = refl
+length_after_one n (x ∷ xs) one = length_after_one (new_size x.span) xs one
+
 -- how far a row is joined: the ones before an index are over mine, whose span is this one by then
 pub record RowSoFar (old now : List Shifted) (mine : Shifted) (span : ActiveSpan) (i : ℕ) : Type 0 where
   pub kept : map operations now ≡ map operations old
@@ -131,6 +135,8 @@ pub record RowSoFar (old now : List Shifted) (mine : Shifted) (span : ActiveSpan
   pub mine_shifted : MayMove span mine.tx.now
   pub done : (more : List Shifted) → FollowFrom (new_size span) more → FollowFrom (new_size mine.span) (take i now ++ more)
   pub left : FollowFrom (old_size span) (drop i now)
+  pub old_end : length_after (old_size span) (drop i now) ≡ length_after (old_size mine.span) old
+  pub new_end : length_after (new_size mine.span) (take i now) ≡ new_size span
   pub joined : (values : List (List Value)) (others : List Value) →
       join_row (all_by_value values old) (shifted_by_value others mine)
       ≡ row_after (all_by_value values (take i now)) (join_row (all_by_value (drop i values) (drop i now)) (between span (by_value others mine.tx.now)))
@@ -143,6 +149,8 @@ row_begun committed mine h follow k = record {
   mine_shifted = k;
   done = λ more m. m;
   left = follow;
+  old_end = refl;
+  new_end = refl;
   joined = λ values others. row_after-none (join_row (all_by_value values committed) (shifted_by_value others mine));
 }
 
@@ -183,6 +191,11 @@ module _ (old now : List Shifted) (mine : Shifted) (span : ActiveSpan) (i : ℕ)
         (so_far.done (record { tx = one.tx; span = s } ∷ more) two);
     left = subst (FollowFrom (old_size r)) (sym (drop-set i now (record { tx = one.tx; span = s })))
         (subst (λ n. FollowFrom n (drop (suc i) now)) (sym p.second_length) left_here.1);
+    old_end = ap (length_after (old_size r)) (drop-set i now (record { tx = one.tx; span = s }))
+        ∙ (ap (λ n. length_after n (drop (suc i) now)) p.second_length
+        ∙ (sym (ap (length_after (old_size span)) here) ∙ so_far.old_end));
+    new_end = ap (length_after (new_size mine.span)) (take-set i now (record { tx = one.tx; span = s }) lt)
+        ∙ (length_after_one (new_size mine.span) (take i now) (record { tx = one.tx; span = s }) ∙ p.one_length);
     joined = λ values others.
         let z = zipped-index shifted_by_value i values now one lt e in
         let y = between span (by_value others mine.tx.now) in
@@ -209,6 +222,8 @@ row_done old now mine span i so_far end =
       shifted = so_far.shifted;
       mine_shifted = so_far.mine_shifted;
       follow = subst (FollowFrom (new_size mine.span)) (append-nil (take i now) ∙ all) (so_far.done [] tt);
+      old_end = sym (ap (length_after (old_size span)) none) ∙ so_far.old_end;
+      new_end = sym so_far.new_end ∙ ap (length_after (new_size mine.span)) all;
       joined = λ values others.
           let y = between span (by_value others mine.tx.now) in
           so_far.joined values others
@@ -222,7 +237,7 @@ abbrev pub list_after : List Transaction → Result (List Transaction × List Tr
 list_after done (Ok joined) = Ok (joined.0, done ++ joined.1)
 list_after done (Err clash) = Err clash
 
-list_after-none : (r : Result (List Transaction × List Transaction) RangeConflict) → r ≡ list_after [] r
+pub list_after-none : (r : Result (List Transaction × List Transaction) RangeConflict) → r ≡ list_after [] r
 list_after-none (Ok joined) = refl
 list_after-none (Err clash) = refl
 
@@ -239,13 +254,15 @@ row_fails : (xs ys : List Transaction) (y : Transaction) (why : RebaseFault) →
 row_fails xs ys y Memory h = tt
 row_fails xs ys y (Conflict a b) h = ap (λ r. after_row r (λ over. join_list over ys)) h
 
--- committed ones and those of mine that are left start from lists of one length, and what is left
--- ends where all of mine does
-pub record GoesOn (n : ℕ) (mine now left : List Shifted) : Type 0 where
+-- Committed ones and those of mine that are left start from lists of one length, and what is left
+-- ends where all of mine does. Those of mine that are done follow one another, from where all
+-- committed ones ended before to where they end by now.
+pub record GoesOn (n : ℕ) (old mine now left done : List Shifted) : Type 0 where
   pub size : ℕ
   pub committed : FollowFrom size now
   pub mine_left : FollowFrom size left
   pub end : length_after size left ≡ length_after n mine
+  pub mine_done : (more : List Shifted) → FollowFrom (length_after size now) more → FollowFrom (length_after n old) (done ++ more)
 
 -- how far the rows are joined
 pub record RowsSoFar (old now mine_old mine_now : List Shifted) (j : ℕ) : Type 0 where
@@ -254,7 +271,7 @@ pub record RowsSoFar (old now mine_old mine_now : List Shifted) (j : ℕ) : Type
   pub shifted : All IsShifted now
   pub mine_shifted : All IsShifted mine_now
   pub left : StartTogether now (drop j mine_now)
-  pub follow : (n : ℕ) → FollowFrom n old → FollowFrom n mine_old → GoesOn n mine_old now (drop j mine_now)
+  pub follow : (n : ℕ) → FollowFrom n old → FollowFrom n mine_old → GoesOn n old mine_old now (drop j mine_now) (take j mine_now)
   pub joined : (values : List (List Value)) (others : List Value) →
       join_list (all_by_value values old) (map (shifted_by_value others) mine_old)
       ≡ list_after (map (shifted_by_value others) (take j mine_now)) (join_list (all_by_value values now) (map (shifted_by_value others) (drop j mine_now)))
@@ -266,7 +283,7 @@ rows_begun committed mine h k start = record {
   shifted = h;
   mine_shifted = k;
   left = start;
-  follow = λ n h k. record { size = n; committed = h; mine_left = k; end = refl };
+  follow = λ n h k. record { size = n; committed = h; mine_left = k; end = refl; mine_done = λ more m. m };
   joined = λ values others. list_after-none (join_list (all_by_value values committed) (map (shifted_by_value others) mine));
 }
 
@@ -293,16 +310,20 @@ module _ (old now mine_old mine_now : List Shifted) (j : ℕ) (one : Shifted) (s
       (subst (λ l. IsRefusedAs (join_list (all_by_value values now) (map f l)) why) (sym mine_here)
       (row_fails (all_by_value values now) (map f (drop (suc j) mine_now)) (f one) why (h values others))))
 
-  goes_on : (n : ℕ) → GoesOn n mine_old now (drop j mine_now) → (over : List Shifted) (span : ActiveSpan) → FollowFrom (new_size one.span) over →
-      GoesOn n mine_old over (drop (suc j) (slice_set mine_now j (record { tx = one.tx; span = span })))
-  goes_on n g over span h =
+  goes_on : (n : ℕ) → GoesOn n old mine_old now (drop j mine_now) (take j mine_now) → (over : List Shifted) (span : ActiveSpan) → IsRow now one over span →
+      GoesOn n old mine_old over (drop (suc j) (slice_set mine_now j (record { tx = one.tx; span = span }))) (take (suc j) (slice_set mine_now j (record { tx = one.tx; span = span })))
+  goes_on n g over span row =
       let next : Shifted = record { tx = one.tx; span = span } in
       let mine : FollowFrom g.size (one ∷ drop (suc j) mine_now) = subst (FollowFrom g.size) mine_here g.mine_left in
-      subst (GoesOn n mine_old over) (sym (drop-set j mine_now next)) (record {
+      let starts : old_size span ≡ length_after g.size now = row.old_end ∙ ap (λ m. length_after m now) mine.0 in
+      subst (λ left. GoesOn n old mine_old over left (take (suc j) (slice_set mine_now j next))) (sym (drop-set j mine_now next)) (record {
         size = new_size one.span;
-        committed = h;
+        committed = row.follow;
         mine_left = mine.1;
         end = ap (length_after g.size) (sym mine_here) ∙ g.end;
+        mine_done = λ more m.
+            subst (FollowFrom (length_after n old)) (sym (ap (λ l. l ++ more) (take-set j mine_now next lt) ∙ append_assoc (take j mine_now) (next ∷ []) more))
+            (g.mine_done (next ∷ more) (starts, subst (λ m. FollowFrom m more) (sym row.new_end) m));
       })
 
   pub rows_next : (over : List Shifted) (span : ActiveSpan) → IsRow now one over span →
@@ -317,7 +338,7 @@ module _ (old now mine_old mine_now : List Shifted) (j : ℕ) (one : Shifted) (s
       committed_follow = row.follow;
       mine_follow = subst (FollowFrom (new_size one.span)) (sym (drop-set j mine_now (record { tx = one.tx; span = span }))) mine_left.1;
     };
-    follow = λ n h k. goes_on n (so_far.follow n h k) over span row.follow;
+    follow = λ n h k. goes_on n (so_far.follow n h k) over span row;
     joined = λ values others.
         let f = shifted_by_value others in
         let next : Shifted = record { tx = one.tx; span = span } in
@@ -343,6 +364,7 @@ rows_done old now mine_old mine_now j so_far end =
       follow = λ n h k.
           let g = so_far.follow n h k in
           subst (λ m. FollowFrom m now) (ap (length_after g.size) (sym none) ∙ g.end) g.committed;
+      mine_follow = λ n h k. subst (FollowFrom (length_after n old)) (append-nil (take j mine_now) ∙ all) ((so_far.follow n h k).mine_done [] tt);
       joined = λ values others.
           let f = shifted_by_value others in
           so_far.joined values others

@@ -1,4 +1,5 @@
--- A site's entries joined over an entry of another site that takes two letters out of five.
+-- A site's entries joined over an entry of another site that takes two letters out of five, and then
+-- over one more.
 use Rattle.std.proofs.Common.{◌≡◌, ℕ, List, [], ◌∷◌, length, map, codes, None, Some, refl, ap}
 use Rattle.ve_base.specs.declared.value.Value.{Value}
 use Rattle.model_items.specs.declared.item.Item.{Item}
@@ -9,8 +10,10 @@ use Rattle.model_change.specs.Transaction as model
 use Rattle.ve_tx.specs.declared.entry.Entry.{Entry}
 use Rattle.ve_tx.specs.declared.parcel.Parcel.{Parcel}
 use Rattle.ve_tx.specs.Operation.{Operation, Replace, Retain}
+use Rattle.ve_tx.specs.ByValue.{parcel_by_value}
+use Rattle.model_site.specs.Joined.{join_entries}
 use Rattle.ve_rebase.specs.Entries.{outline}
-use Rattle.ve_rebase.specs.Under.{all_over, AreUnder, joined_under, over_values}
+use Rattle.ve_rebase.specs.Under.{all_over, AreAllJoined, AreAllUnder, AreUnder, joined_under, over_values}
 
 abbrev letters : List ℕ → List Item
 letters = map (λ c. item.Char c None)
@@ -61,3 +64,28 @@ number_stays = refl
 
 values_are_put_beside : (values : List Value) → all_over values (puts_x ∷ puts_y ∷ []) ≡ record { entry = puts_x; values = values } ∷ over_values values puts_y ∷ []
 values_are_put_beside values = refl
+
+-- ---- over several entries
+
+-- w stands before a, on the list ade that b and c went from
+abbrev puts_w : Parcel
+puts_w = record { entry = entry (Replace [] (letters (codes "w")) ∷ Retain 3 ∷ []); values = [] }
+
+-- d and e go from ade
+abbrev takes_both : Parcel
+takes_both = record { entry = entry (Retain 1 ∷ Replace (letters (codes "de")) [] ∷ []); values = [] }
+
+-- each of theirs is over mine as they are by then, and mine are over both
+both_are_joined : (values : List Value) → AreAllJoined (map parcel_by_value (theirs ∷ puts_w ∷ [])) (map parcel_by_value (all_over values (puts_x ∷ puts_y ∷ [])))
+    (((model.Retain 1 ∷ model.Replace (plainly (codes "bc")) [] ∷ model.Retain 4 ∷ []) ∷ []) ∷ ((model.Replace [] (plainly (codes "w")) ∷ model.Retain 5 ∷ []) ∷ []) ∷ [])
+    (((model.Retain 3 ∷ model.Replace [] (plainly (codes "x")) ∷ model.Retain 1 ∷ []) ∷ []) ∷ ((model.Retain 5 ∷ model.Replace [] (plainly (codes "y")) ∷ []) ∷ []) ∷ [])
+both_are_joined values = (refl, refl, (refl, refl, refl))
+
+-- x stands between d and e, so the front ends before an entry that takes both
+stops_before_a_conflict : (one two : Parcel) (kept : List Entry) →
+    AreAllUnder (theirs ∷ takes_both ∷ []) (puts_x ∷ puts_y ∷ []) (record { committed = one ∷ two ∷ []; kept = kept }) → ⊥
+stops_before_a_conflict one two kept h = let joined = h.joined [] in let none = joined.2.0 in cc
+
+-- and not before the first one, with which none is in conflict
+leaves_none_before : (kept : List Entry) → AreAllUnder (theirs ∷ takes_both ∷ []) (puts_x ∷ puts_y ∷ []) (record { committed = []; kept = kept }) → ⊥
+leaves_none_before kept h = h.stops theirs refl [] (ap (λ ps. (join_entries (parcel_by_value theirs) ps).clash) (h.joined []))

@@ -69,7 +69,7 @@ cite_parts values (x ∷ xs) ys h =
     let rest = cite_parts values xs ys (All-tail ParcelCites (over_values values x) (all_over values (xs ++ ys)) h) in
     (All-cons ParcelCites (over_values values x) (all_over values xs) (All-head ParcelCites (over_values values x) (all_over values (xs ++ ys)) h) rest.0, rest.1)
 
-over_get : (values : List Value) (mine : List Entry) (i : ℕ) (one : Entry) → one ≡ get_or mine i one → over_values values one ≡ get_or (all_over values mine) i (over_values values one)
+pub over_get : (values : List Value) (mine : List Entry) (i : ℕ) (one : Entry) → one ≡ get_or mine i one → over_values values one ≡ get_or (all_over values mine) i (over_values values one)
 over_get values [] i one is = refl
 over_get values (e ∷ mine) zero one is = ap (over_values values) is
 over_get values (e ∷ mine) (suc i) one is = over_get values mine i one is

@@ -22,7 +22,7 @@ use Rattle.ve_rebase.proofs.EntryLemmas.{values_of, parcels_each, written_parcel
 
 -- ---- one entry
 
-length_alike : (v : List Value) (n : ℕ) (txs : List (List Operation)) (all : List Shifted) → AreWritten txs all → All IsShifted all →
+pub length_alike : (v : List Value) (n : ℕ) (txs : List (List Operation)) (all : List Shifted) → AreWritten txs all → All IsShifted all →
     length_after n all ≡ length_given n (map (by_value v) txs)
 length_alike v n [] [] h g = refl
 length_alike v n (t ∷ txs) (a ∷ all) h g =
@@ -65,7 +65,7 @@ entry_refused over more mine why k refused values =
 
 -- ---- all entries
 
-run_parted : (n : ℕ) (xs ys : List Transaction) → RunOnLength n (xs ++ ys) → RunOnLength n xs × RunOnLength (length_given n xs) ys
+pub run_parted : (n : ℕ) (xs ys : List Transaction) → RunOnLength n (xs ++ ys) → RunOnLength n xs × RunOnLength (length_given n xs) ys
 run_parted n [] ys h = (tt, h)
 run_parted n (x ∷ xs) ys h = let r = run_parted (new_length x) xs ys h.1 in ((h.0, r.0), r.1)
 

@@ -15,3 +15,4 @@ pub mod Shifted
 pub mod Entries
 pub mod Until
 pub mod Under
+pub mod Moved

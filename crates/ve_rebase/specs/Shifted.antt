@@ -83,6 +83,9 @@ pub record IsRow (committed : List Shifted) (mine : Shifted) (over : List Shifte
   pub shifted : All IsShifted over
   pub follow : FollowFrom (new_size mine.span) over
   pub mine_shifted : MayMove span mine.tx.now
+  -- mine then is on the list that the committed ones give, and gives the list that they do over it
+  pub old_end : old_size span ≡ length_after (old_size mine.span) committed
+  pub new_end : new_size span ≡ length_after (new_size mine.span) over
 
 -- all rows joined
 pub record AreRows (committed mine over mine_over : List Shifted) : Type 0 where
@@ -94,6 +97,8 @@ pub record AreRows (committed mine over mine_over : List Shifted) : Type 0 where
   pub mine_shifted : All IsShifted mine_over
   -- the committed ones are on lists as mine give
   pub follow : (n : ℕ) → FollowFrom n committed → FollowFrom n mine → FollowFrom (length_after n mine) over
+  -- and mine on lists as the committed ones give
+  pub mine_follow : (n : ℕ) → FollowFrom n committed → FollowFrom n mine → FollowFrom (length_after n committed) mine_over
 
 -- these operations are the shifted ones, written out
 abbrev pub AreWritten : List (List Operation) → List Shifted → Type 0

@@ -1,13 +1,15 @@
 -- A site's entries joined over an entry of another site.
-use Rattle.std.specs.Prelude.{◌≡◌, List, length, map, take, All}
+use Rattle.std.specs.Prelude.{◌≡◌, ◌≢◌, ◌≤◌, List, [], ◌∷◌, length, map, slice_get, take, All, Some, None}
 use Rattle.ve_base.specs.declared.value.Value.{Value}
 use Rattle.model_change.specs.Join.{join_list}
+use Rattle.model_site.specs.Entries.{Parcel as ModelParcel}
 use Rattle.model_site.specs.Joined.{Joined, join_entries}
 use Rattle.ve_tx.specs.declared.entry.Entry.{Entry}
 use Rattle.ve_tx.specs.declared.parcel.Parcel.{Parcel}
 use Rattle.ve_tx.specs.ByValue.{parcel_by_value, ParcelCites}
 use Rattle.ve_rebase.specs.declared.fault.RebaseFault.{RebaseFault}
 use Rattle.ve_rebase.specs.declared.shifted.Shifted.{Shifted}
+use Rattle.ve_rebase.specs.declared.all_under.EntriesUnderAll.{EntriesUnderAll}
 use Rattle.ve_rebase.specs.declared.under.EntriesUnder.{EntriesUnder}
 use Rattle.ve_rebase.specs.Entries.{outline}
 use Rattle.ve_rebase.specs.Lists.{IsRefusedAs}
@@ -34,6 +36,32 @@ pub record AreUnder (foreign : Parcel) (entries : List Entry) (made : EntriesUnd
   pub outlines : (values : List Value) → map outline (all_over values made.kept) ≡ map outline (take (length made.kept) (all_over values entries))
   pub committed_cites : ParcelCites foreign → ParcelCites made.committed
   pub cite : (values : List Value) → All ParcelCites (all_over values (take (length made.kept) entries)) → All ParcelCites (all_over values made.kept)
+
+-- ---- over several entries
+
+-- Entries of others joined by value with all of mine, one after the other, and none in conflict:
+-- what each is over mine as they are by then, and mine over all of them.
+abbrev pub AreAllJoined : (foreign mine committed kept : List ModelParcel) → Type 0
+AreAllJoined [] mine [] kept = kept ≡ mine
+AreAllJoined (f ∷ foreign) mine (c ∷ committed) kept =
+    let j = join_entries f mine in (j.clash ≡ None) × (j.committed ≡ c) × AreAllJoined foreign j.kept committed kept
+AreAllJoined [] mine (c ∷ committed) kept = ⊥
+AreAllJoined (f ∷ foreign) mine [] kept = ⊥
+
+-- Whatever values the entries cite: the others' entries before the first that is in conflict with
+-- one of them, as they are over these, and all of these over those. Each keeps all but its
+-- transactions.
+pub record AreAllUnder (foreign : List Parcel) (entries : List Entry) (made : EntriesUnderAll) : Type 0 where
+  pub within : length made.committed ≤ length foreign
+  pub joined : (values : List Value) →
+      AreAllJoined (map parcel_by_value (take (length made.committed) foreign)) (map parcel_by_value (all_over values entries))
+      (map parcel_by_value made.committed) (map parcel_by_value (all_over values made.kept))
+  pub stops : (next : Parcel) → slice_get foreign (length made.committed) ≡ Some next → (values : List Value) →
+      (joined_under values next made.kept).clash ≢ None
+  pub committed_outlines : map outline made.committed ≡ map outline (take (length made.committed) foreign)
+  pub outlines : (values : List Value) → map outline (all_over values made.kept) ≡ map outline (all_over values entries)
+  pub committed_cite : All ParcelCites foreign → All ParcelCites made.committed
+  pub cite : (values : List Value) → All ParcelCites (all_over values entries) → All ParcelCites (all_over values made.kept)
 
 -- ---- for private functions
 

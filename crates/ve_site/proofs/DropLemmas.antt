@@ -3,8 +3,10 @@ use Rattle.std.proofs.Common.{◌≡◌, ◌≤◌, ◌<◌, ◌+◌, ◌-◌, �
 use Rattle.std.proofs.lemmas.List.{map-append, length-append, length-drop, length-map, drop-map, drop_all, take_all, take_more, at_drop_more}
 use Rattle.std.proofs.lemmas.List.Elements.{All-nil, All-head}
 use Rattle.std.proofs.Math.Seq.{take-append_seam}
-use Rattle.model_change.specs.Replay.{reversal}
-use Rattle.model_site.specs.Entries.{Parcel as ModelParcel, all_reverted, reverted}
+use Rattle.model_items.specs.declared.plain_item.PlainItem.{PlainItem}
+use Rattle.model_change.specs.Replay.{flattened, replay, reversal}
+use Rattle.model_change.specs.Transaction.{Transaction}
+use Rattle.model_site.specs.Entries.{Parcel as ModelParcel, all_reverted, parcels, reverted}
 use Rattle.model_site.specs.Entries.{Entry as ModelEntry}
 use Rattle.model_site.specs.Replica.{Replica}
 use Rattle.model_site.specs.Untold.{Untold, none_untold, passed}
@@ -14,14 +16,15 @@ use Rattle.ve_tx.specs.declared.parcel.Parcel.{Parcel}
 use Rattle.ve_tx.specs.ByValue.{ParcelCites}
 use Rattle.ve_tx.specs.Making.{Extends}
 use Rattle.ve_tx.proofs.ValuesLemmas.{extends_itself, extends_on}
-use Rattle.ve_tree.specs.TreeOf.{most_steps}
-use Rattle.ve_editor.specs.Counted.{steps_over}
+use Rattle.ve_tx.specs.Operation.{by_value}
+use Rattle.ve_editor.specs.Counted.{steps_after}
 use Rattle.ve_editor.specs.Edited.{CanBeReverted, CutsUncited, entry_by_value, EntryCites, reversal_over}
 use Rattle.ve_editor.proofs.OtherLemmas.{all_by_value-extended}
 use Rattle.ve_history.specs.Stacks.{Stacks, without_last}
-use Rattle.ve_site.specs.Dropped.{AreDropped, IsStack}
+use Rattle.ve_site.specs.Dropped.{AreDropped, IsStack, back_over, only_done}
 use Rattle.ve_site.specs.Numbered.{site_of, IsSite}
-use Rattle.ve_site.specs.Taking.{steps_back, steps_under}
+use Rattle.ve_site.proofs.MakingLemmas.{items_back, steps_of_both, steps_of_first}
+use Rattle.ve_site.proofs.NotedLemmas.{reversal-append}
 use Rattle.ve_site.proofs.OverLemmas.{cite_parts, over_cites, over_last, prefix_extends, prefix_stays}
 use Rattle.ve_site.proofs.TakenLemmas.{restacked_stands}
 use Rattle.ve_site.proofs.UndoLemmas.{cuts_uncited, last_cites, left_extends, may_go, undone_is}
@@ -59,7 +62,7 @@ seam (x ∷ first) second (suc at) le full = let rest = seam first second at (om
 pub stack_is : (editor : Replica) (seen : ℕ) (sent : List Entry) (old : Stacks) (shared : ℕ) (flight : Option ℕ) → IsSite editor seen sent old shared flight →
     IsStack editor (sent ++ old.done)
 stack_is editor seen sent old shared flight is =
-    let stack : Stacks = record { done = sent ++ old.done; undone = []; spare = 0 } in
+    let stack = only_done (sent ++ old.done) in
     record {
       stands = λ untold. restacked_stands (site_of editor untold seen sent old shared flight) (site_of editor untold 0 [] stack 0 None) (is.stands untold) refl (map-append (entry_by_value editor.store) sent old.done) refl;
       over = is.over;
@@ -83,7 +86,7 @@ same_over base one other e more others cites =
 
 module _ (old now : Replica) (left gone : List Entry) (e : Entry) (d : AreDropped old (left ++ e ∷ []) gone now) where
   abbrev stack : Stacks
-  stack = record { done = left ++ e ∷ []; undone = []; spare = 0 }
+  stack = only_done (left ++ e ∷ [])
 
   pub next_cites : EntryCites now.store e
   next_cites = last_cites now nothing 0 [] stack 0 None d.stack e (ends left e)
@@ -115,12 +118,16 @@ module _ (old now : Replica) (left gone : List Entry) (e : Entry) (d : AreDroppe
         over = last.before;
       }
 
-  pub one_counts : (start before after : ℕ) → before ≤ start + steps_back (map (entry_by_value old.store) gone) old →
-      after ≤ before + steps_over (reversal_over now.store e.txs) now.items → after ≤ start + steps_back (map (entry_by_value old.store) (e ∷ gone)) old
+  pub one_counts : (start before after : ℕ) → before ≤ start + steps_after (back_over old.store gone) old.items →
+      after ≤ before + steps_after (reversal_over now.store e.txs) now.items → after ≤ start + steps_after (back_over old.store (e ∷ gone)) old.items
   one_counts start before after h step =
-      let one = subst (λ (x : ModelEntry). after ≤ before + steps_over (reversal x.txs) now.items) same step in
-      let there = subst (λ (r : Replica). after ≤ before + steps_over (reversal (entry_by_value old.store e).txs) r.items) d.page one in
-      omega (arith, h, there)
+      let later = flattened (parcels (map (entry_by_value old.store) gone)) in
+      let one : after ≤ before + steps_after (reversal_over old.store e.txs) now.items =
+      subst (λ (x : ModelEntry). after ≤ before + steps_after (reversal x.txs) now.items) same step in
+      let list : now.items ≡ replay (reversal later) old.items = ap (λ (r : Replica). r.items) d.page ∙ items_back (map (entry_by_value old.store) gone) old in
+      let there = subst (λ items. after ≤ before + steps_after (reversal_over old.store e.txs) items) list one in
+      let both = ap (λ ts. steps_after ts old.items) (reversal-append (map (by_value old.store) e.txs) later) ∙ steps_of_both (reversal later) (reversal_over old.store e.txs) old.items in
+      omega (arith, h, there, both)
 
 -- what is found at a position
 found : (es : List Entry) (i : ℕ) (e : Entry) → slice_get es i ≡ Some e → e ≡ get_or es i e
@@ -150,79 +157,48 @@ module _ (old now : Replica) (all : List Entry) (at k : ℕ) (e : Entry) (droppe
   pub at_gone : (new : Replica) → new ≡ reverted (entry_by_value now.store e) now → AreDropped old (take k all) (drop k all) new
   at_gone new page = subst (λ l. AreDropped old (take k all) l new) (sym more) (one_gone old now (take k all) (drop (k + 1) all) e split new page)
 
-  pub at_counts : (start before after : ℕ) → before ≤ start + steps_back (map (entry_by_value old.store) (drop at all)) old →
-      after ≤ before + steps_over (reversal_over now.store e.txs) now.items → after ≤ start + steps_back (map (entry_by_value old.store) (drop k all)) old
+  pub at_counts : (start before after : ℕ) → before ≤ start + steps_after (back_over old.store (drop at all)) old.items →
+      after ≤ before + steps_after (reversal_over now.store e.txs) now.items → after ≤ start + steps_after (back_over old.store (drop k all)) old.items
   at_counts start before after h step =
-      subst (λ l. after ≤ start + steps_back (map (entry_by_value old.store) l) old) (sym more)
-      (one_counts old now (take k all) (drop (k + 1) all) e split start before after (subst (λ n. before ≤ start + steps_back (map (entry_by_value old.store) (drop n all)) old) next h) step)
+      subst (λ l. after ≤ start + steps_after (back_over old.store l) old.items) (sym more)
+      (one_counts old now (take k all) (drop (k + 1) all) e split start before after (subst (λ n. before ≤ start + steps_after (back_over old.store (drop n all)) old.items) next h) step)
 
 -- ---- counted
 
-after_some : (es : List ModelEntry) (n : ℕ) (r : Replica) → steps_back (drop n es) r ≤ steps_back es r
-after_some es zero r = omega arith
-after_some [] (suc n) r = omega arith
-after_some (e ∷ es) (suc n) r = let h = after_some es n r in omega (arith, h)
+one_fewer : (store : List Value) (e : Entry) (es : List Entry) (items : List PlainItem) → steps_after (back_over store es) items ≤ steps_after (back_over store (e ∷ es)) items
+one_fewer store e es items =
+    let all = ap (λ ts. steps_after ts items) (reversal-append (map (by_value store) e.txs) (flattened (parcels (map (entry_by_value store) es)))) in
+    let some = steps_of_first (back_over store es) (reversal (map (by_value store) e.txs)) items in
+    omega (arith, all, some)
 
-pub fewer_within : (es : List ModelEntry) (m n : ℕ) (r : Replica) → m ≤ n → steps_back (drop n es) r ≤ steps_back (drop m es) r
-fewer_within es zero n r le = after_some es n r
-fewer_within es (suc m) zero r le = absurd (omega (arith, le))
-fewer_within [] (suc m) (suc n) r le = omega arith
-fewer_within (e ∷ es) (suc m) (suc n) r le = fewer_within es m n r (omega (arith, le))
+after_some : (store : List Value) (es : List Entry) (n : ℕ) (items : List PlainItem) → steps_after (back_over store (drop n es)) items ≤ steps_after (back_over store es) items
+after_some store es zero items = omega arith
+after_some store [] (suc n) items = omega arith
+after_some store (e ∷ es) (suc n) items = let h = after_some store es n items in let one = one_fewer store e es items in omega (arith, h, one)
 
-pub gone_within : (store : List Value) (es : List Entry) (m n : ℕ) (r : Replica) → m ≤ n →
-    steps_back (map (entry_by_value store) (drop n es)) r ≤ steps_back (map (entry_by_value store) (drop m es)) r
-gone_within store es m n r le =
-    subst (λ l. steps_back l r ≤ steps_back (map (entry_by_value store) (drop m es)) r) (drop-map (entry_by_value store) n es)
-    (subst (λ l. steps_back (drop n (map (entry_by_value store) es)) r ≤ steps_back l r) (drop-map (entry_by_value store) m es) (fewer_within (map (entry_by_value store) es) m n r le))
+pub gone_within : (store : List Value) (es : List Entry) (m n : ℕ) (items : List PlainItem) → m ≤ n →
+    steps_after (back_over store (drop n es)) items ≤ steps_after (back_over store (drop m es)) items
+gone_within store es zero n items le = after_some store es n items
+gone_within store es (suc m) zero items le = absurd (omega (arith, le))
+gone_within store [] (suc m) (suc n) items le = omega arith
+gone_within store (e ∷ es) (suc m) (suc n) items le = gone_within store es m n items (omega (arith, le))
 
 pub none_taken_back : (old : Replica) (all : List Entry) (count : ℕ) → IsStack old all → count ≡ length all → AreDropped old (take count all) (drop count all) old
 none_taken_back old all count is n =
     subst (λ l. AreDropped old l (drop count all) old) (sym (take_all count all (omega (arith, n))))
     (subst (λ l. AreDropped old all l old) (sym (drop_all count all (omega (arith, n)))) (none_dropped old all is))
 
--- where none is taken back, nothing is copied
-pub in_place_within : (gone : List ModelEntry) (committed : ModelParcel) (r : Replica) (before after : ℕ) → gone ≡ [] → after ≤ before + steps_over committed r.items →
-    after ≤ before + steps_under gone committed r
-in_place_within gone committed r before after none h = subst (λ l. after ≤ before + steps_under l committed r) (sym none) (omega (arith, h))
+-- transactions performed once entries are taken back
+module _ (old middle : Replica) (left gone : List Entry) (committed : ModelParcel) (dropped : AreDropped old left gone middle) where
+  list_then : middle.items ≡ replay (back_over old.store gone) old.items
+  list_then = ap (λ (r : Replica). r.items) dropped.page ∙ items_back (map (entry_by_value old.store) gone) old
 
--- where one is, there is a copy
-pub copied_then : (gone : List ModelEntry) (committed : ModelParcel) (r : Replica) → 0 < length gone →
-    steps_under gone committed r ≡ (most_steps r.items + steps_back gone r) + steps_over committed (all_reverted gone r).items
-copied_then [] committed r some = absurd (omega (arith, some))
-copied_then (e ∷ es) committed r some = refl
+  pub admit_counts : (start two three : ℕ) → two ≤ start + steps_after (back_over old.store gone) old.items → three ≤ two + steps_after committed middle.items →
+      three ≤ start + steps_after (back_over old.store gone ++ committed) old.items
+  admit_counts start two three h k =
+      let both = steps_of_both (back_over old.store gone) committed old.items in
+      let there = subst (λ items. three ≤ two + steps_after committed items) list_then k in
+      omega (arith, h, both, there)
 
-pub some_gone : (store : List Value) (es : List Entry) (n : ℕ) → n < length es → 0 < length (map (entry_by_value store) (drop n es))
-some_gone store es n below =
-    let l = length-map (drop n es) (entry_by_value store) in let d = length-drop n es in omega (arith, l, d, below)
-
-pub none_gone : (store : List Value) (es : List Entry) (n : ℕ) → length es ≤ n → map (entry_by_value store) (drop n es) ≡ []
-none_gone store es n le = ap (map (entry_by_value store)) (drop_all n es le)
-
--- what was counted on the copy
-module _ (old other : Replica) (es : List Entry) (left : ℕ) (committed : ModelParcel) (start one : ℕ) (below : left < length es) (same : other ≡ old)
-    (copied : one ≤ start + most_steps old.items) where
-  abbrev gone : List ModelEntry
-  gone = map (entry_by_value old.store) (drop left es)
-
-  all_steps : steps_under gone committed old ≡ (most_steps old.items + steps_back gone old) + steps_over committed (all_reverted gone old).items
-  all_steps = copied_then gone committed old (some_gone old.store es left below)
-
-  pub copy_counts : one ≤ start + steps_under gone committed old
-  copy_counts = let e = all_steps in omega (arith, e, copied)
-
-  back_steps : (two : ℕ) → two ≤ one + steps_back (map (entry_by_value other.store) (drop left es)) other → two ≤ one + steps_back gone old
-  back_steps two h = subst (λ (r : Replica). two ≤ one + steps_back (map (entry_by_value r.store) (drop left es)) r) same h
-
-  pub back_counts : (two : ℕ) → two ≤ one + steps_back (map (entry_by_value other.store) (drop left es)) other → two ≤ start + steps_under gone committed old
-  back_counts two h = let e = all_steps in let b = back_steps two h in omega (arith, e, copied, b)
-
-  pub dropped_from : (middle : Replica) → AreDropped other (take left es) (drop left es) middle → AreDropped old (take left es) (drop left es) middle
-  dropped_from middle d = subst (λ r. AreDropped r (take left es) (drop left es) middle) same d
-
-  pub admit_counts : (middle : Replica) (two three : ℕ) → AreDropped other (take left es) (drop left es) middle →
-      two ≤ one + steps_back (map (entry_by_value other.store) (drop left es)) other → three ≤ two + steps_over committed middle.items → three ≤ start + steps_under gone committed old
-  admit_counts middle two three d h k =
-      let e = all_steps in
-      let b = back_steps two h in
-      let c = subst (λ (r : Replica). three ≤ two + steps_over committed r.items) (dropped_from middle d).page k in
-      omega (arith, e, copied, b, c)
+pub back_counts : (back committed : List Transaction) (items : List PlainItem) (start two : ℕ) → two ≤ start + steps_after back items → two ≤ start + steps_after (back ++ committed) items
+back_counts back committed items start two h = let some = steps_of_first back committed items in omega (arith, h, some)

@@ -1,136 +1,165 @@
--- Entries of other sites, one after the other.
-use Rattle.std.proofs.Common.{◌≡◌, ◌≤◌, ◌<◌, ◌+◌, ℕ, List, [], ◌∷◌, length, map, drop, get_or, sym, ap, ◌∙◌, subst, refl, arith}
-use Rattle.std.proofs.lemmas.List.{append-nil, at_drop_more, drop_all, length-map}
+-- Entries of other sites, taken one run after the other on a copy, or in place.
+use Rattle.std.proofs.Common.{◌≡◌, ◌≤◌, ◌<◌, ◌+◌, ◌-◌, ℕ, List, [], ◌∷◌, ◌++◌, length, map, take, drop, get_or, refl, sym, ap, ◌∙◌, subst, arith}
+use Rattle.std.proofs.lemmas.List.{append-nil, at_drop_more, drop_all, drop-drop, length-drop, map-append, take_all, take_more}
 use Rattle.model_change.specs.Replay.{AllRun, flattened}
 use Rattle.model_site.specs.Entries.{Parcel as ModelParcel}
-use Rattle.model_site.specs.Site.{Site, pending}
+use Rattle.model_site.specs.Site.{Site}
 use Rattle.model_site.specs.Take.{take_entry, take_foreign}
-use Rattle.ve_tree.specs.TreeOf.{most_steps}
-use Rattle.ve_editor.proofs.BackLemmas.{one_only}
+use Rattle.ve_editor.specs.Counted.{steps_after}
 use Rattle.ve_tx.specs.declared.parcel.Parcel.{Parcel}
 use Rattle.ve_tx.specs.ByValue.{parcel_by_value}
+use Rattle.ve_site.specs.declared.taking.Taking.{Taking}
 use Rattle.ve_site.specs.Ground.{Stands, ground_of}
-use Rattle.ve_site.specs.Numbered.{Numbered, with_site}
-use Rattle.ve_site.specs.Taking.{steps_of_feed, steps_to_take, steps_to_take_all}
-use Rattle.ve_site.proofs.TakenLemmas.{MayTakeNext, has_taken, may_take_next, none_taken, taken_anyway}
+use Rattle.ve_site.specs.Taking.{taking_all, taking_one}
+use Rattle.ve_site.specs.Underway.{HaveTaken, IsTaking, taking_site}
+use Rattle.ve_site.proofs.FrontSiteLemmas.{parted_by_value}
+use Rattle.ve_site.proofs.MakingLemmas.{may_take_both, steps_of_taking, taken-append}
 
--- a site that took the first so many; so many entries are still pending, and these numbers of steps
--- were counted before and after
-pub record IsTaking (old : Numbered) (parcels : List Parcel) (i : ℕ) (now : Numbered) (left before after : ℕ) : Type 0 where
-  pub number : now.number ≡ old.number
-  pub site : take_foreign (map parcel_by_value (drop i parcels)) now.site ≡ take_foreign (map parcel_by_value parcels) old.site
-  pub run : AllRun (flattened (map parcel_by_value (drop i parcels))) (ground_of now.site)
-  pub stands : Stands now.site
-  pub undone : now.site.undone ≡ []
-  pub pending_are : left ≡ length (pending now.site)
+-- it stands as a site does
+pub taking_stands : (t : Taking) → IsTaking t → Stands (taking_site t)
+taking_stands t is = is.stands t.untold
+
+-- the first so many count no more than all
+pub first_within : (n : ℕ) (parcels : List Parcel) (s : Site) (before after : ℕ) → after ≤ before + steps_after (taking_all (map parcel_by_value (take n parcels)) s) s.replica.items →
+    after ≤ before + steps_after (taking_all (map parcel_by_value parcels) s) s.replica.items
+first_within n parcels s before after h =
+    let both = ap (λ ps. steps_after (taking_all ps s) s.replica.items) (parted_by_value n parcels)
+    ∙ steps_of_taking (map parcel_by_value (take n parcels)) (map parcel_by_value (drop n parcels)) s in
+    omega (arith, h, both)
+
+-- ---- some entries, and then others
+
+module _ (now : Taking) (parcels : List Parcel) (n : ℕ) (new : Taking) (is : IsTaking now) (run : AllRun (flattened (map parcel_by_value parcels)) (ground_of (taking_site now)))
+    (taken : HaveTaken parcels now n new) where
+  abbrev first : List ModelParcel
+  first = map parcel_by_value (take n parcels)
+
+  abbrev later : List ModelParcel
+  later = map parcel_by_value (drop n parcels)
+
+  pub later_run : AllRun (flattened later) (ground_of (taking_site new))
+  later_run =
+      let may = may_take_both first later (taking_site now) (taking_stands now is) (subst (λ ps. AllRun (flattened ps) (ground_of (taking_site now))) (parted_by_value n parcels) run) in
+      subst (λ s. AllRun (flattened later) (ground_of s)) (sym taken.site) may.later_run
+
+  pub later_taken : take_foreign later (taking_site new) ≡ take_foreign (map parcel_by_value parcels) (taking_site now)
+  later_taken = ap (take_foreign later) taken.site ∙ (sym (taken-append first later (taking_site now)) ∙ ap (λ ps. take_foreign ps (taking_site now)) (sym (parted_by_value n parcels)))
+
+  -- what they count together
+  both_count : steps_after (taking_all (map parcel_by_value parcels) (taking_site now)) now.editor.items
+      ≡ steps_after (taking_all first (taking_site now)) now.editor.items + steps_after (taking_all later (taking_site new)) new.editor.items
+  both_count =
+      ap (λ ps. steps_after (taking_all ps (taking_site now)) now.editor.items) (parted_by_value n parcels)
+      ∙ (steps_of_taking first later (taking_site now)
+      ∙ ap (λ (s : Site). steps_after (taking_all first (taking_site now)) now.editor.items + steps_after (taking_all later s) s.replica.items) (sym taken.site))
+
+-- ---- a front, and the entry after it
+
+module _ (now : Taking) (parcels : List Parcel) (n : ℕ) (between : Taking) (is : IsTaking now) (run : AllRun (flattened (map parcel_by_value parcels)) (ground_of (taking_site now)))
+    (taken : HaveTaken parcels now n between) (below : n < length parcels) (next : Parcel) (next_is : next ≡ get_or parcels n next) where
+  abbrev behind : List ModelParcel
+  behind = map parcel_by_value (drop (n + 1) parcels)
+
+  split : map parcel_by_value (drop n parcels) ≡ parcel_by_value next ∷ behind
+  split = at_drop_more (map parcel_by_value) parcels n next below ∙ ap (λ x. parcel_by_value x ∷ behind) (sym next_is)
+
+  rest_run : AllRun (flattened ((parcel_by_value next ∷ []) ++ behind)) (ground_of (taking_site between))
+  rest_run = subst (λ ps. AllRun (flattened ps) (ground_of (taking_site between))) split (later_run now parcels n between is run taken)
+
+  pub next_run : AllRun (parcel_by_value next) (ground_of (taking_site between))
+  next_run =
+      subst (λ ts. AllRun ts (ground_of (taking_site between))) (append-nil (parcel_by_value next))
+      (may_take_both (parcel_by_value next ∷ []) behind (taking_site between) (taking_stands between taken.is) rest_run).first_run
+
+  with_next : map parcel_by_value (take (n + 1) parcels) ≡ map parcel_by_value (take n parcels) ++ parcel_by_value next ∷ []
+  with_next =
+      ap (map parcel_by_value) (take_more parcels n next below ∙ ap (λ x. take n parcels ++ x ∷ []) (sym next_is))
+      ∙ map-append parcel_by_value (take n parcels) (next ∷ [])
+
+  pub some_taken : (new : Taking) → taking_site new ≡ take_entry (parcel_by_value next) (taking_site between) → IsTaking new → HaveTaken parcels now (n + 1) new
+  some_taken new took still = record {
+    within = omega (arith, below);
+    site = took
+        ∙ (ap (take_foreign (parcel_by_value next ∷ [])) taken.site
+        ∙ (sym (taken-append (map parcel_by_value (take n parcels)) (parcel_by_value next ∷ []) (taking_site now)) ∙ ap (λ ps. take_foreign ps (taking_site now)) (sym with_next)));
+    is = still;
+  }
+
+  pub some_within : (start one two : ℕ) → one ≤ start + steps_after (taking_all (map parcel_by_value (take n parcels)) (taking_site now)) now.editor.items →
+      two ≤ one + steps_after (taking_one (parcel_by_value next) (taking_site between)) between.editor.items →
+      two ≤ start + steps_after (taking_all (map parcel_by_value (take (n + 1) parcels)) (taking_site now)) now.editor.items
+  some_within start one two h k =
+      let first = map parcel_by_value (take n parcels) in
+      let both = ap (λ ps. steps_after (taking_all ps (taking_site now)) now.editor.items) with_next ∙ steps_of_taking first (parcel_by_value next ∷ []) (taking_site now) in
+      let last = ap (λ (s : Site). steps_after (taking_all (parcel_by_value next ∷ []) s) s.replica.items) (sym taken.site) in
+      let alone = ap (λ ts. steps_after ts between.editor.items) (append-nil (taking_one (parcel_by_value next) (taking_site between))) in
+      omega (arith, h, k, both, last, alone)
+
+-- ---- until none is left
+
+-- the first so many are taken, and these numbers of steps were counted before and after
+pub record IsAlong (old : Taking) (parcels : List Parcel) (at : ℕ) (now : Taking) (before after : ℕ) : Type 0 where
+  pub is : IsTaking now
+  pub site : take_foreign (map parcel_by_value (drop at parcels)) (taking_site now) ≡ take_foreign (map parcel_by_value parcels) (taking_site old)
+  pub run : AllRun (flattened (map parcel_by_value (drop at parcels))) (ground_of (taking_site now))
+  pub within : at ≤ length parcels
   pub counted : before ≤ after
-  pub spent : after + steps_to_take_all (map parcel_by_value (drop i parcels)) now.site
-      ≤ before + (most_steps old.site.replica.items + steps_to_take_all (map parcel_by_value parcels) old.site)
+  pub spent : after + steps_after (taking_all (map parcel_by_value (drop at parcels)) (taking_site now)) now.editor.items
+      ≤ before + steps_after (taking_all (map parcel_by_value parcels) (taking_site old)) old.editor.items
 
--- a copy with nothing undone takes the same steps
-steps_anyway : (entries : List ModelParcel) (s : Site) → steps_to_take_all entries (record s { undone = [] }) ≡ steps_to_take_all entries s
-steps_anyway [] s = refl
-steps_anyway (entry ∷ entries) s = refl
+pub begun : (old : Taking) (parcels : List Parcel) (before : ℕ) → IsTaking old → AllRun (flattened (map parcel_by_value parcels)) (ground_of (taking_site old)) →
+    IsAlong old parcels 0 old before before
+begun old parcels before is run = record { is = is; site = refl; run = run; within = omega arith; counted = omega arith; spent = omega arith }
 
-pub taking_begun : (old now : Numbered) (parcels : List Parcel) (left before after : ℕ) → Stands now.site → AllRun (flattened (map parcel_by_value parcels)) (ground_of old.site) →
-    now ≡ with_site (record old.site { undone = [] }) old → left ≡ length (pending now.site) → before ≤ after → after ≤ before + most_steps old.site.replica.items →
-    IsTaking old parcels 0 now left before after
-taking_begun old now parcels left before after stands run copy pending_are counted spent =
-    let cleared : Site = record old.site { undone = [] } in
-    let same : now.site ≡ cleared = ap (λ (x : Numbered). x.site) copy in
-    let entries = map parcel_by_value parcels in
-    record {
-      number = ap (λ (x : Numbered). x.number) copy;
-      site = ap (take_foreign entries) same ∙ taken_anyway entries old.site;
-      run = subst (λ s. AllRun (flattened entries) (ground_of s)) (sym same) run;
-      stands = stands;
-      undone = ap (λ (s : Site). s.undone) same;
-      pending_are = pending_are;
-      counted = counted;
-      spent =
-          let all = ap (steps_to_take_all entries) same ∙ steps_anyway entries old.site in
-          subst (λ n. after + n ≤ before + (most_steps old.site.replica.items + steps_to_take_all entries old.site)) (sym all) (omega (arith, spent));
-    }
+-- what a call gets of a slice
+pub rest_of : {A : Type 0} (at : ℕ) (xs : List A) → take (length xs - at) (drop at xs) ≡ drop at xs
+rest_of at xs = let n = length-drop at xs in take_all (length xs - at) (drop at xs) (omega (arith, n))
 
-module _ (old : Numbered) (parcels : List Parcel) (i : ℕ) (now : Numbered) (left before after : ℕ) (one : Parcel) (taking : IsTaking old parcels i now left before after) (below : i < length parcels)
-    (is : one ≡ get_or parcels i one) where
-  abbrev rest : List ModelParcel
-  rest = map parcel_by_value (drop (i + 1) parcels)
+module _ (old : Taking) (parcels : List Parcel) (at : ℕ) (now : Taking) (before after : ℕ) (along : IsAlong old parcels at now before after) (rest : List Parcel)
+    (rest_is : rest ≡ drop at parcels) where
+  pub rest_run_on : AllRun (flattened (map parcel_by_value rest)) (ground_of (taking_site now))
+  rest_run_on = subst (λ ps. AllRun (flattened (map parcel_by_value ps)) (ground_of (taking_site now))) (sym rest_is) along.run
 
-  next : map parcel_by_value (drop i parcels) ≡ parcel_by_value one ∷ rest
-  next = at_drop_more (map parcel_by_value) parcels i one below ∙ ap (λ x. parcel_by_value x ∷ rest) (sym is)
+  spent_on : after + steps_after (taking_all (map parcel_by_value rest) (taking_site now)) now.editor.items
+      ≤ before + steps_after (taking_all (map parcel_by_value parcels) (taking_site old)) old.editor.items
+  spent_on =
+      subst (λ ps. after + steps_after (taking_all (map parcel_by_value ps) (taking_site now)) now.editor.items
+      ≤ before + steps_after (taking_all (map parcel_by_value parcels) (taking_site old)) old.editor.items) (sym rest_is) along.spent
 
-  may : MayTakeNext (parcel_by_value one) rest now.site
-  may = may_take_next (parcel_by_value one) rest now.site taking.stands (subst (λ l. AllRun (flattened l) (ground_of now.site)) next taking.run)
+  pub failed_within : (later : ℕ) → later ≤ after + steps_after (taking_all (map parcel_by_value rest) (taking_site now)) now.editor.items →
+      later ≤ before + steps_after (taking_all (map parcel_by_value parcels) (taking_site old)) old.editor.items
+  failed_within later h = let s = spent_on in omega (arith, h, s)
 
-  pub next_may : AllRun (parcel_by_value one) (ground_of now.site)
-  next_may = may.run
+  module _ (n : ℕ) (new : Taking) (taken : HaveTaken rest now n new) where
+    dropped : map parcel_by_value (drop n rest) ≡ map parcel_by_value (drop (at + n) parcels)
+    dropped = ap (λ ps. map parcel_by_value (drop n ps)) rest_is ∙ ap (map parcel_by_value) (drop-drop n at parcels)
 
-  bound : after + (steps_to_take (parcel_by_value one) now.site + steps_to_take_all rest (take_entry (parcel_by_value one) now.site))
-      ≤ before + (most_steps old.site.replica.items + steps_to_take_all (map parcel_by_value parcels) old.site)
-  bound = subst (λ l. after + steps_to_take_all l now.site ≤ before + (most_steps old.site.replica.items + steps_to_take_all (map parcel_by_value parcels) old.site)) next taking.spent
+    pub one_run_further : (later : ℕ) → after ≤ later → later ≤ after + steps_after (taking_all (map parcel_by_value (take n rest)) (taking_site now)) now.editor.items →
+        IsAlong old parcels (at + n) new before later
+    one_run_further later counted spent =
+        let both = both_count now rest n new along.is rest_run_on taken in
+        let s = spent_on in
+        let c = along.counted in
+        let size : length rest ≡ length parcels - at = ap length rest_is ∙ length-drop at parcels in
+        let w = along.within in
+        record {
+          is = taken.is;
+          site = ap (λ ps. take_foreign ps (taking_site new)) (sym dropped)
+              ∙ (later_taken now rest n new along.is rest_run_on taken ∙ (ap (λ ps. take_foreign (map parcel_by_value ps) (taking_site now)) rest_is ∙ along.site));
+          run = subst (λ ps. AllRun (flattened ps) (ground_of (taking_site new))) dropped (later_run now rest n new along.is rest_run_on taken);
+          within = omega (arith, taken.within, size, w);
+          counted = omega (arith, c, counted);
+          spent =
+              subst (λ ps. later + steps_after (taking_all ps (taking_site new)) new.editor.items
+              ≤ before + steps_after (taking_all (map parcel_by_value parcels) (taking_site old)) old.editor.items) dropped (omega (arith, both, s, spent));
+        }
 
-  pub next_within : (later : ℕ) → later ≤ after + steps_to_take (parcel_by_value one) now.site →
-      later ≤ before + (most_steps old.site.replica.items + steps_to_take_all (map parcel_by_value parcels) old.site)
-  next_within later h = let b = bound in omega (arith, b, h)
+pub all_taken : (old : Taking) (parcels : List Parcel) (at : ℕ) (now : Taking) (before after : ℕ) → IsAlong old parcels at now before after → length parcels ≤ at →
+    taking_site now ≡ take_foreign (map parcel_by_value parcels) (taking_site old)
+all_taken old parcels at now before after along end =
+    let none : map parcel_by_value (drop at parcels) ≡ [] = ap (map parcel_by_value) (drop_all at parcels end) in
+    sym (ap (λ ps. take_foreign ps (taking_site now)) none) ∙ along.site
 
-  pub taking_next : (new : Numbered) (fewer later : ℕ) → new ≡ with_site (take_entry (parcel_by_value one) now.site) now → fewer ≡ length (pending new.site) → after ≤ later →
-      later ≤ after + steps_to_take (parcel_by_value one) now.site → IsTaking old parcels (i + 1) new fewer before later
-  taking_next new fewer later took pending_are counted spent =
-      let same : new.site ≡ take_entry (parcel_by_value one) now.site = ap (λ (x : Numbered). x.site) took in
-      let b = bound in
-      let c = taking.counted in
-      record {
-        number = ap (λ (x : Numbered). x.number) took ∙ taking.number;
-        site = ap (take_foreign rest) same ∙ (sym (ap (λ l. take_foreign l now.site) next) ∙ taking.site);
-        run = subst (λ s. AllRun (flattened rest) (ground_of s)) (sym same) may.others_run;
-        stands = subst Stands (sym same) (has_taken (parcel_by_value one) now.site taking.stands may.run).stands;
-        undone = ap (λ (s : Site). s.undone) same;
-        pending_are = pending_are;
-        counted = omega (arith, c, counted);
-        spent = subst (λ s. later + steps_to_take_all rest s ≤ before + (most_steps old.site.replica.items + steps_to_take_all (map parcel_by_value parcels) old.site)) (sym same) (omega (arith, b, spent));
-      }
-
--- all are taken
-pub taking_done : (old : Numbered) (parcels : List Parcel) (i : ℕ) (now : Numbered) (left before after : ℕ) → IsTaking old parcels i now left before after → length parcels ≤ i →
-    now ≡ with_site (take_foreign (map parcel_by_value parcels) old.site) old
-taking_done old parcels i now left before after taking end =
-    let none : map parcel_by_value (drop i parcels) ≡ [] = ap (map parcel_by_value) (drop_all i parcels end) in
-    let site : now.site ≡ take_foreign (map parcel_by_value parcels) old.site =
-    sym (none_taken now.site taking.undone) ∙ (sym (ap (λ l. take_foreign l now.site) none) ∙ taking.site) in
-    ap (λ n. record { number = n; site = now.site }) taking.number ∙ ap (λ s. record { number = old.number; site = s }) site
-
-pub taking_within : (old : Numbered) (parcels : List Parcel) (i : ℕ) (now : Numbered) (left before after : ℕ) → IsTaking old parcels i now left before after →
-    after ≤ before + (most_steps old.site.replica.items + steps_to_take_all (map parcel_by_value parcels) old.site)
-taking_within old parcels i now left before after taking = let s = taking.spent in omega (arith, s)
-
--- ---- copies are counted unless one is taken alone
-
-not_one : (entries : List ModelParcel) (s : Site) (before after : ℕ) → (length entries ≡ 1 → ⊥) →
-    after ≤ before + (most_steps s.replica.items + steps_to_take_all entries s) → after ≤ before + (steps_of_feed entries s.replica.items + steps_to_take_all entries s)
-not_one [] s before after more h = h
-not_one (entry ∷ []) s before after more h = absurd (more refl)
-not_one (entry ∷ other ∷ entries) s before after more h = h
-
--- ---- one alone
-
-module _ (parcels : List Parcel) (one : Parcel) (entries : List ModelParcel) (s : Site) (n : length parcels ≡ 1) (is : one ≡ get_or parcels 0 one)
-    (by_values : map parcel_by_value parcels ≡ entries) where
-  alone : entries ≡ parcel_by_value one ∷ []
-  alone = sym by_values ∙ ap (map parcel_by_value) (one_only parcels one n is)
-
-  pub one_runs : AllRun (flattened entries) (ground_of s) → AllRun (parcel_by_value one) (ground_of s)
-  one_runs run = subst (λ us. AllRun us (ground_of s)) (ap flattened alone ∙ append-nil (parcel_by_value one)) run
-
-  pub one_entry : take_entry (parcel_by_value one) s ≡ take_foreign entries s
-  one_entry = sym (ap (λ l. take_foreign l s) alone)
-
-  pub one_counts : (before after : ℕ) → after ≤ before + steps_to_take (parcel_by_value one) s →
-      after ≤ before + (steps_of_feed entries s.replica.items + steps_to_take_all entries s)
-  one_counts before after h = subst (λ l. after ≤ before + (steps_of_feed l s.replica.items + steps_to_take_all l s)) (sym alone) (omega (arith, h))
-
-pub several_count : (parcels : List Parcel) (entries : List ModelParcel) (s : Site) → (length parcels ≡ 1 → ⊥) → map parcel_by_value parcels ≡ entries → (before after : ℕ) →
-    after ≤ before + (most_steps s.replica.items + steps_to_take_all (map parcel_by_value parcels) s) → after ≤ before + (steps_of_feed entries s.replica.items + steps_to_take_all entries s)
-several_count parcels entries s more by_values before after h =
-    let same = sym (ap (λ (l : List ModelParcel). length l) by_values) ∙ length-map parcels parcel_by_value in
-    not_one entries s before after (λ n. more (sym same ∙ n)) (subst (λ l. after ≤ before + (most_steps s.replica.items + steps_to_take_all l s)) by_values h)
+pub all_within : (old : Taking) (parcels : List Parcel) (at : ℕ) (now : Taking) (before after : ℕ) → IsAlong old parcels at now before after →
+    after ≤ before + steps_after (taking_all (map parcel_by_value parcels) (taking_site old)) old.editor.items
+all_within old parcels at now before after along = let s = along.spent in omega (arith, s)

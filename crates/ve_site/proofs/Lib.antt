@@ -7,9 +7,16 @@ mod UndoLemmas
 mod RedoLemmas
 mod SendLemmas
 mod TakenLemmas
+mod MakingLemmas
+mod FrontLemmas
+mod SeveralLemmas
 mod DropLemmas
+mod EachLemmas
+mod PendingLemmas
 mod TakeLemmas
+mod FrontSiteLemmas
 mod FeedLemmas
+mod InPlaceLemmas
 mod LengthLemmas
 mod TotalLemmas
 mod SpellLemmas

@@ -1,4 +1,4 @@
--- Entries noted as taken back, the last one first.
+-- Entries noted as taken back, the last one first; and parcels noted, the first one first.
 use Rattle.std.proofs.Common.{◌≡◌, ◌-◌, ℕ, zero, suc, List, [], ◌∷◌, ◌++◌, length, map, drop, min, sym, ap, ◌∙◌, arith}
 use Rattle.std.proofs.lemmas.List.{append_assoc, append-nil, drop_min, map-append}
 use Rattle.ve_base.specs.declared.value.Value.{Value}
@@ -9,17 +9,16 @@ use Rattle.model_site.specs.Entries.{parcels}
 use Rattle.model_site.specs.Untold.{Untold, passed}
 use Rattle.model_site_law.proofs.ReplayLemmas.{flattened-append, parcels-append}
 use Rattle.ve_tx.specs.declared.entry.Entry.{Entry}
+use Rattle.ve_tx.specs.declared.parcel.Parcel.{Parcel}
+use Rattle.ve_tx.specs.ByValue.{parcel_by_value}
 use Rattle.ve_tx.specs.Operation.{by_value}
 use Rattle.ve_editor.specs.Edited.{entry_by_value}
+use Rattle.ve_site.specs.Dropped.{back_over}
 use Rattle.ve_site.proofs.PatchLemmas.{passed_both}
 
-reversal-append : (ts us : List Transaction) → reversal (ts ++ us) ≡ reversal us ++ reversal ts
+pub reversal-append : (ts us : List Transaction) → reversal (ts ++ us) ≡ reversal us ++ reversal ts
 reversal-append [] us = sym (append-nil (reversal us))
 reversal-append (t ∷ ts) us = ap (λ l. l ++ inverse t ∷ []) (reversal-append ts us) ∙ append_assoc (reversal us) (reversal ts) (inverse t ∷ [])
-
--- the transactions that take entries back, over the values that they cite
-abbrev pub back_over : List Value → List Entry → List Transaction
-back_over values es = reversal (flattened (parcels (map (entry_by_value values) es)))
 
 -- one more is taken back
 pub entry_undone : (values : List Value) (e : Entry) (l rest : List Entry) (old u v : Untold) → l ≡ e ∷ rest → u ≡ passed (back_over values rest) old →
@@ -32,7 +31,7 @@ entry_undone values e l rest old u v split before noted =
     ∙ (ap (λ us. passed us old) (sym (reversal-append ts (flattened (parcels (map (entry_by_value values) rest)))))
     ∙ ap (λ es. passed (back_over values es) old) (sym split))))
 
-back-append : (values : List Value) (xs ys : List Entry) → back_over values (xs ++ ys) ≡ back_over values ys ++ back_over values xs
+pub back-append : (values : List Value) (xs ys : List Entry) → back_over values (xs ++ ys) ≡ back_over values ys ++ back_over values xs
 back-append values xs ys =
     let first = map (entry_by_value values) xs in
     let second = map (entry_by_value values) ys in
@@ -56,3 +55,11 @@ both_undone values n xs ys first second old u v a b before after =
     ∙ (ap (passed (back_over values first)) before
     ∙ (passed_both (back_over values second) (back_over values first) old
     ∙ (ap (λ us. passed us old) (sym (back-append values first second)) ∙ ap (λ es. passed (back_over values es) old) all)))
+
+-- one more parcel is performed
+pub parcel_noted : (p : Parcel) (l rest : List Parcel) (u v all : Untold) → l ≡ p ∷ rest → passed (flattened (map parcel_by_value l)) u ≡ all → v ≡ passed (parcel_by_value p) u →
+    passed (flattened (map parcel_by_value rest)) v ≡ all
+parcel_noted p l rest u v all split before noted =
+    let later = flattened (map parcel_by_value rest) in
+    ap (passed later) noted
+    ∙ (passed_both (parcel_by_value p) later u ∙ (sym (ap (λ ps. passed (flattened (map parcel_by_value ps)) u) split) ∙ before))

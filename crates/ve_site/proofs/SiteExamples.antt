@@ -19,9 +19,9 @@ use Rattle.ve_tree.specs.TreeOf.{most_steps}
 use Rattle.ve_site.specs.Counted.{undoing, redoing}
 use Rattle.ve_site.specs.Dropped.{numbered_alike}
 use Rattle.ve_site.specs.Ground.{ground_of, as_opened, AreOver}
-use Rattle.ve_site.specs.Laws.{longest_of, trees_for}
+use Rattle.ve_site.specs.Laws.{longest_of}
 use Rattle.ve_site.specs.Numbered.{site_of, with_site}
-use Rattle.ve_site.specs.Taking.{MayTake, steps_of_feed, steps_of_take, steps_to_take}
+use Rattle.ve_site.specs.Taking.{MayTake, steps_of_take}
 use Rattle.ve_site.specs.Refusal.{IsUndoRefusal, IsRedoRefusal, IsSendRefusal}
 
 abbrev letters : List ℕ → List PlainItem
@@ -52,10 +52,6 @@ ground_has_neither = refl
 
 nothing_pending : ground_of (starting (page (codes "ab"))) ≡ letters (codes "ab")
 nothing_pending = refl
-
--- an entry of one transaction and one of two
-trees_are_counted : trees_for ((puts 0 97 1 ∷ []) ∷ (puts 0 97 1 ∷ puts 1 98 1 ∷ []) ∷ []) ≡ 7
-trees_are_counted = refl
 
 -- two letters on the confirmed list, one that is taken and two that are pending
 longest_list : longest_of ((puts 1 120 1 ∷ []) ∷ []) in_flight ≡ 5
@@ -143,23 +139,24 @@ answers_count_nothing = refl
 abbrev all_gone : Transaction
 all_gone = Replace (letters (codes "ad")) [] ∷ []
 
--- So b and c can't stay between them: both are taken back on a copy, the last one first. Each time
--- the root and its one text node become shorter, and at last the text node goes.
-both_are_dropped : steps_to_take (all_gone ∷ []) in_flight ≡ (most_steps (letters (codes "abcd")) + (32 + 32)) + 32
-both_are_dropped = refl
+-- So b and c can't stay between them: both are taken back, the last one first, and a and d go then,
+-- all on one copy. Each time the root and its one text node become shorter, and at last the text
+-- node goes.
+three_on_a_copy : steps_of_take (Foreign ((all_gone ∷ []) ∷ [])) in_flight ≡ most_steps (letters (codes "abcd")) + (32 + (32 + 32))
+three_on_a_copy = refl
 
 -- x before a is in nobody's way; the root and its text node become longer
 abbrev puts_first : Transaction
 puts_first = Replace [] (letters (codes "x")) ∷ Retain 2 ∷ []
 
-none_is_dropped : steps_to_take (puts_first ∷ []) in_flight ≡ 32
-none_is_dropped = refl
-
 alone_in_place : steps_of_take (Foreign ((puts_first ∷ []) ∷ [])) in_flight ≡ 32
 alone_in_place = refl
 
-two_on_a_copy : steps_of_feed ((puts_first ∷ []) ∷ [] ∷ []) (letters (codes "abcd")) ≡ most_steps (letters (codes "abcd"))
+two_on_a_copy : steps_of_take (Foreign ((puts_first ∷ []) ∷ [] ∷ [])) in_flight ≡ most_steps (letters (codes "abcd")) + 32
 two_on_a_copy = refl
+
+none_counts_nothing : steps_of_take (Foreign []) in_flight ≡ 0
+none_counts_nothing = refl
 
 cuts_nothing_off : numbered_alike 5 (numbered 0 2) ≡ numbered 5 5
 cuts_nothing_off = refl

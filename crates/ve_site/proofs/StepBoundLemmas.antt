@@ -1,7 +1,7 @@
 -- How many steps a take counts, and how long its lists are: no transaction counts more than a tree
 -- of the longest list does.
 use Rattle.std.proofs.Common.{◌≡◌, ◌≤◌, ℕ, suc, ◌+◌, ◌*◌, List, [], ◌∷◌, ◌++◌, length, map, take, drop, refl, sym, ap, ◌∙◌, subst, arith, add-mul, suc-mul, mul-le-mul_right}
-use Rattle.std.proofs.lemmas.List.{length-append, length-map, take-append-drop}
+use Rattle.std.proofs.lemmas.List.{append-nil, length-append, length-map, take-append-drop}
 use Rattle.model_items.specs.declared.plain_item.PlainItem.{PlainItem}
 use Rattle.model_items.specs.declared.plain_item.PlainItem.TheVariants.{Char, Opening, Closing}
 use Rattle.model_items.specs.Law.{Lawful}
@@ -16,18 +16,17 @@ use Rattle.model_change.proofs.ReversalLaw.{reversal_undoes}
 use Rattle.model_change_law.proofs.InsertedLemmas.{join_lists_insert_the_same}
 use Rattle.model_site.specs.Entries.{Entry, Parcel, all_reverted, parcels}
 use Rattle.model_site.specs.Joined.{Joined, join_entries}
-use Rattle.model_site.specs.Replica.{Replica}
 use Rattle.model_site.specs.Site.{Site, pending}
 use Rattle.model_site.specs.Take.{take_entry}
 use Rattle.model_site_law.specs.Sound.{Sound}
 use Rattle.model_site_law.proofs.ReplayLemmas.{AllRun-parts, flattened-append, parcels-drop, parcels-noted, replay-append, sound_after}
-use Rattle.model_site_law.proofs.RevertLemmas.{items_all_reverted}
+use Rattle.model_site_law.proofs.RevertLemmas.{items_all_reverted, items_performed}
 use Rattle.model_site_law.proofs.UntilConflictLemmas.{joined_until_conflict}
 use Rattle.ve_tree.specs.TreeOf.{most_steps}
-use Rattle.ve_editor.specs.Counted.{steps_of, steps_after, steps_of_copy, steps_over}
+use Rattle.ve_editor.specs.Counted.{steps_of, steps_after, steps_of_copy}
 use Rattle.ve_site.specs.Ground.{Stands, ground_of}
-use Rattle.ve_site.specs.Taking.{steps_back, steps_of_feed, steps_to_drop, steps_to_take, steps_to_take_all}
-use Rattle.ve_site.specs.Laws.{TakeIsBounded, longest_of, trees_for}
+use Rattle.ve_site.specs.Taking.{steps_of_feed, taking_all, taking_one}
+use Rattle.ve_site.specs.Laws.{TakeIsBounded, longest_of}
 use Rattle.ve_site.proofs.TouchLemmas.{touch_within}
 use Rattle.ve_site.proofs.TakenLemmas.{committed_runs, has_taken, may_take_next}
 
@@ -122,14 +121,6 @@ made_within (t ∷ ts) items n lawful run small =
     let all = one_more (length ts) (each n) in
     omega (arith, first, rest, all)
 
-performed_within : (ts : List Transaction) (items : List PlainItem) (n : ℕ) → Lawful items → AllRun ts items → length items + inserted_by ts ≤ n →
-    steps_over ts items ≤ suc (length ts) * each n
-performed_within ts items n lawful run small =
-    let copy = copy_within ts items n (omega (arith, small)) in
-    let made = made_within ts items n lawful run small in
-    let all = one_more (length ts) (each n) in
-    omega (arith, copy, made, all)
-
 -- ---- transactions taken back
 
 back_within : (ts : List Transaction) (items : List PlainItem) (n : ℕ) → Sound items → AllRun ts items → length items + inserted_by ts ≤ n →
@@ -147,68 +138,6 @@ back_within (t ∷ ts) items n sound run small =
     let all = one_more (length ts) (each n) in
     omega (arith, rest, parts, last, all)
 
-reversal-length : (ts : List Transaction) → length (reversal ts) ≡ length ts
-reversal-length [] = refl
-reversal-length (t ∷ ts) = length-push (reversal ts) (inverse t) ∙ ap suc (reversal-length ts)
-  where
-    length-push : (us : List Transaction) (u : Transaction) → length (us ++ u ∷ []) ≡ suc (length us)
-    length-push [] u = refl
-    length-push (v ∷ us) u = ap suc (length-push us u)
-
-undone_within : (ts : List Transaction) (items : List PlainItem) (n : ℕ) → Sound items → AllRun ts items → length items + inserted_by ts ≤ n →
-    steps_over (reversal ts) (replay ts items) ≤ suc (length ts) * each n
-undone_within ts items n sound run small =
-    let long = replay_within ts items run in
-    let copy = copy_within (reversal ts) (replay ts items) n (omega (arith, long, small)) in
-    let back = back_within ts items n sound run small in
-    let all = one_more (length ts) (each n) in
-    omega (arith, copy, back, all)
-
--- ---- entries taken back
-
--- for each entry one more than it has transactions
-backs_for : List Entry → ℕ
-backs_for [] = 0
-backs_for (e ∷ es) = suc (length e.txs) + backs_for es
-
-entries_back_within : (es : List Entry) (r : Replica) (items : List PlainItem) (n : ℕ) → Sound items → AllRun (flattened (parcels es)) items →
-    r.items ≡ replay (flattened (parcels es)) items → length items + inserted_by (flattened (parcels es)) ≤ n → steps_back es r ≤ backs_for es * each n
-unfolding backs_for
-entries_back_within [] r items n sound run is small = omega arith
-entries_back_within (e ∷ es) r items n sound run is small =
-    let later = flattened (parcels es) in
-    let parts = AllRun-parts e.txs later items run in
-    let next = replay e.txs items in
-    let both = insert-append e.txs later in
-    let grown = replay_within e.txs items parts.0 in
-    let there = is ∙ replay-append e.txs later items in
-    let sound_next = sound_after e.txs items sound parts.0 in
-    let rest = entries_back_within es r next n sound_next parts.1 there (omega (arith, small, both, grown)) in
-    let left : (all_reverted es r).items ≡ next = items_all_reverted es r next sound_next parts.1 there in
-    let one : steps_over (reversal e.txs) (all_reverted es r).items ≤ suc (length e.txs) * each n =
-    subst (λ l. steps_over (reversal e.txs) l ≤ suc (length e.txs) * each n) (sym left) (undone_within e.txs items n sound parts.0 (omega (arith, small, both))) in
-    let all = parts_of (suc (length e.txs)) (backs_for es) (each n) in
-    omega (arith, rest, one, all)
-
-backs_fewer : (es : List Entry) → backs_for es ≤ trees_for (parcels es)
-unfolding backs_for
-backs_fewer [] = omega arith
-backs_fewer (e ∷ es) = let rest = backs_fewer es in omega (arith, rest)
-
-dropped_within : (es : List Entry) (r : Replica) (items : List PlainItem) (n : ℕ) → Sound items → AllRun (flattened (parcels es)) items →
-    r.items ≡ replay (flattened (parcels es)) items → length items + inserted_by (flattened (parcels es)) ≤ n → steps_to_drop es r ≤ trees_for (parcels es) * each n
-unfolding backs_for
-dropped_within [] r items n sound run is small = omega arith
-dropped_within (e ∷ es) r items n sound run is small =
-    let back = entries_back_within (e ∷ es) r items n sound run is small in
-    let long = replay_within (flattened (parcels (e ∷ es))) items run in
-    let size : length r.items ≡ length (replay (flattened (parcels (e ∷ es))) items) = ap (λ (l : List PlainItem). length l) is in
-    let copy = steps_within r.items n (omega (arith, long, size, small)) in
-    let fewer = backs_fewer es in
-    let enough = more_trees (suc (backs_for (e ∷ es))) (trees_for (parcels (e ∷ es))) (each n) (omega (arith, fewer)) in
-    let all = one_more (backs_for (e ∷ es)) (each n) in
-    omega (arith, back, copy, enough, all)
-
 -- ---- what is joined inserts as much, and has as many transactions
 
 inserted_alike : (ts us : List Transaction) → map all_inserted ts ≡ map all_inserted us → (inserted_by ts ≡ inserted_by us) × (length ts ≡ length us)
@@ -221,21 +150,6 @@ inserted_alike ts us e = (by_items ts ∙ ap sum_of e ∙ sym (by_items us), sym
     by_items : (vs : List Transaction) → inserted_by vs ≡ sum_of (map all_inserted vs)
     by_items [] = refl
     by_items (v ∷ vs) = ap (λ m. length (all_inserted v) + m) (by_items vs)
-
-trees-append : (ps qs : List Parcel) → trees_for (ps ++ qs) ≡ trees_for ps + trees_for qs
-trees-append [] qs = omega arith
-trees-append (p ∷ ps) qs = let rest = trees-append ps qs in omega (arith, rest)
-
-trees_alike : (ps qs : List Parcel) → map (λ (p : Parcel). length p) ps ≡ map (λ (p : Parcel). length p) qs → trees_for ps ≡ trees_for qs
-trees_alike ps qs e = by_lengths ps ∙ ap sum_of e ∙ sym (by_lengths qs)
-  where
-    sum_of : List ℕ → ℕ
-    sum_of [] = 0
-    sum_of (m ∷ ms) = (2 + m) + sum_of ms
-
-    by_lengths : (rs : List Parcel) → trees_for rs ≡ sum_of (map (λ (p : Parcel). length p) rs)
-    by_lengths [] = refl
-    by_lengths (r ∷ rs) = ap (λ m. (2 + length r) + m) (by_lengths rs)
 
 -- ---- one entry taken
 
@@ -252,95 +166,138 @@ module _ (foreign : Parcel) (s : Site) (stands : Stands s) (run : AllRun foreign
   abbrev kept : List Parcel
   kept = take (length j.kept) own
 
-  abbrev gone : List Entry
-  gone = drop (length j.kept) (pending s)
+  abbrev dropped : List Entry
+  dropped = drop (length j.kept) (pending s)
 
-  split : flattened own ≡ flattened kept ++ flattened (parcels gone)
+  -- the transactions of the entries that are dropped
+  abbrev gone : List Transaction
+  gone = flattened (parcels dropped)
+
+  split : flattened own ≡ flattened kept ++ gone
   split =
       ap flattened (sym (take-append-drop (length j.kept) own))
       ∙ (flattened-append kept (drop (length j.kept) own) ∙ ap (λ r. flattened kept ++ flattened r) (sym (parcels-drop (length j.kept) (pending s))))
 
-  inserts : inserted_by (flattened own) ≡ inserted_by (flattened kept) + inserted_by (flattened (parcels gone))
-  inserts = ap inserted_by split ∙ insert-append (flattened kept) (flattened (parcels gone))
+  inserts : inserted_by (flattened own) ≡ inserted_by (flattened kept) + inserted_by gone
+  inserts = ap inserted_by split ∙ insert-append (flattened kept) gone
 
-  trees : trees_for own ≡ trees_for kept + trees_for (parcels gone)
-  trees =
-      ap trees_for (sym (take-append-drop (length j.kept) own)) ∙ trees-append kept (drop (length j.kept) own)
-      ∙ ap (λ ps. trees_for kept + trees_for ps) (sym (parcels-drop (length j.kept) (pending s)))
+  counts : length (flattened own) ≡ length (flattened kept) + length gone
+  counts = ap (λ (l : List Transaction). length l) split ∙ length-append (flattened kept) gone
 
   same_inserted : (map all_inserted j.committed ≡ map all_inserted foreign) × (map all_inserted (flattened j.kept) ≡ map all_inserted (flattened kept))
   same_inserted = join_lists_insert_the_same foreign (flattened kept) (j.committed, flattened j.kept) (joined_until_conflict foreign own).one_list
 
+  -- ---- the list that is left once the dropped entries are taken back
+
+  runs : AllRun (flattened kept) floor × AllRun gone (replay (flattened kept) floor)
+  runs = AllRun-parts (flattened kept) gone floor (subst (λ us. AllRun us floor) split stands.holds.runs)
+
+  abbrev stay : List PlainItem
+  stay = replay (flattened kept) floor
+
+  sound_there : Sound stay
+  sound_there = sound_after (flattened kept) floor stands.sound runs.0
+
+  there : s.replica.items ≡ replay gone stay
+  there = stands.holds.list ∙ (ap (λ us. replay us floor) split ∙ replay-append (flattened kept) gone floor)
+
+  left : (all_reverted dropped s.replica).items ≡ stay
+  left = items_all_reverted dropped s.replica stay sound_there runs.1 there
+
+  back : replay (reversal gone) s.replica.items ≡ stay
+  back = ap (replay (reversal gone)) there ∙ (reversal_undoes gone stay sound_there.lawful sound_there.apart runs.1).back
+
+  committed_run : AllRun j.committed stay
+  committed_run = subst (AllRun j.committed) left (committed_runs foreign s stands run)
+
+  -- the transactions of the take lead to the list of the site that took it
+  taking_leads : replay (taking_one foreign s) s.replica.items ≡ (take_entry foreign s).replica.items
+  taking_leads =
+      replay-append (reversal gone) j.committed s.replica.items
+      ∙ (ap (replay j.committed) (back ∙ sym left) ∙ sym (items_performed j.committed (all_reverted dropped s.replica)))
+
   taken_within : (n : ℕ) → length floor + (inserted_by foreign + inserted_by (flattened own)) ≤ n →
-      steps_to_take foreign s ≤ (trees_for (parcels gone) + (2 + length foreign)) * each n
+      steps_after (taking_one foreign s) s.replica.items ≤ (length gone + length foreign) * each n
   taken_within n small =
-      let parts = AllRun-parts (flattened kept) (flattened (parcels gone)) floor (subst (λ us. AllRun us floor) split stands.holds.runs) in
-      let stay = replay (flattened kept) floor in
-      let sound_there = sound_after (flattened kept) floor stands.sound parts.0 in
-      let there = stands.holds.list ∙ (ap (λ us. replay us floor) split ∙ replay-append (flattened kept) (flattened (parcels gone)) floor) in
-      let grown = replay_within (flattened kept) floor parts.0 in
+      let grown = replay_within (flattened kept) floor runs.0 in
       let all = inserts in
-      let back = dropped_within gone s.replica stay n sound_there parts.1 there (omega (arith, small, all, grown)) in
-      let left : (all_reverted gone s.replica).items ≡ stay = items_all_reverted gone s.replica stay sound_there parts.1 there in
-      let size : length (all_reverted gone s.replica).items ≡ length stay = ap (λ (l : List PlainItem). length l) left in
+      let first = back_within gone stay n sound_there runs.1 (omega (arith, small, all, grown)) in
+      let first_here : steps_after (reversal gone) s.replica.items ≤ length gone * each n =
+      subst (λ l. steps_after (reversal gone) l ≤ length gone * each n) (sym there) first in
       let alike = inserted_alike j.committed foreign same_inserted.0 in
       let inserted_same = alike.0 in
-      let count_same = alike.1 in
-      let made = performed_within j.committed (all_reverted gone s.replica).items n (subst Lawful (sym left) sound_there.lawful) (committed_runs foreign s stands run) (omega (arith, small, all, grown, size, inserted_same)) in
-      let more = more_trees (suc (length j.committed)) (2 + length foreign) (each n) (omega (arith, count_same)) in
-      let both = parts_of (trees_for (parcels gone)) (2 + length foreign) (each n) in
-      omega (arith, back, made, more, both)
+      let second = made_within j.committed stay n sound_there.lawful committed_run (omega (arith, small, all, grown, inserted_same)) in
+      let second_here : steps_after j.committed (replay (reversal gone) s.replica.items) ≤ length foreign * each n =
+      subst (λ l. steps_after j.committed l ≤ length foreign * each n) (sym back) (subst (λ k. steps_after j.committed stay ≤ k * each n) alike.1 second) in
+      let parts = steps-append (reversal gone) j.committed s.replica.items in
+      let both = parts_of (length gone) (length foreign) (each n) in
+      omega (arith, first_here, second_here, parts, both)
 
   pending_after : parcels (pending (take_entry foreign s)) ≡ j.kept
   pending_after = ap parcels (take-append-drop (length s.sent) _) ∙ parcels-noted _ j.kept
 
-  trees_after : trees_for (parcels (pending (take_entry foreign s))) ≡ trees_for kept
-  trees_after = ap trees_for pending_after ∙ trees_alike j.kept kept (joined_until_conflict foreign own).sizes
+  counts_after : length (flattened (parcels (pending (take_entry foreign s)))) ≡ length (flattened kept)
+  counts_after = ap (λ ps. length (flattened ps)) pending_after ∙ (inserted_alike (flattened j.kept) (flattened kept) same_inserted.1).1
 
   longest_after : (entries : List Parcel) → longest_of entries (take_entry foreign s) ≤ longest_of (foreign ∷ entries) s
   longest_after entries =
       let ground_next : length (ground_of (take_entry foreign s)) ≡ length (replay foreign floor) = ap (λ (l : List PlainItem). length l) (has_taken foreign s stands run).ground in
       let grown = replay_within foreign floor run in
-      let left : inserted_by (flattened (parcels (pending (take_entry foreign s)))) ≡ inserted_by (flattened kept) =
+      let fewer : inserted_by (flattened (parcels (pending (take_entry foreign s)))) ≡ inserted_by (flattened kept) =
       ap (λ ps. inserted_by (flattened ps)) pending_after ∙ (inserted_alike (flattened j.kept) (flattened kept) same_inserted.1).0 in
       let all = inserts in
       let both = insert-append foreign (flattened entries) in
-      omega (arith, ground_next, grown, left, all, both)
+      omega (arith, ground_next, grown, fewer, all, both)
 
 -- ---- entries taken one after the other
 
+-- how many transactions are taken, and are pending
+abbrev changes_of : List Parcel → Site → ℕ
+changes_of entries s = length (flattened entries) + length (flattened (parcels (pending s)))
+
 all_within : (entries : List Parcel) (s : Site) (n : ℕ) → Stands s → AllRun (flattened entries) (ground_of s) → longest_of entries s ≤ n →
-    steps_to_take_all entries s ≤ (trees_for entries + trees_for (parcels (pending s))) * each n
+    steps_after (taking_all entries s) s.replica.items ≤ changes_of entries s * each n
 all_within [] s n stands run small = omega arith
 all_within (entry ∷ entries) s n stands run small =
     let may = may_take_next entry entries s stands run in
-    let both = insert-append entry (flattened entries) in
-    let first = taken_within entry s stands may.run n (omega (arith, small, both)) in
+    let next = take_entry entry s in
+    let inserted = insert-append entry (flattened entries) in
+    let first = taken_within entry s stands may.run n (omega (arith, small, inserted)) in
     let longer = longest_after entry s stands may.run entries in
-    let rest = all_within entries (take_entry entry s) n (has_taken entry s stands may.run).stands may.others_run (omega (arith, small, longer)) in
-    let left = trees_after entry s stands may.run in
-    let own = trees entry s stands may.run in
-    let dropped = parcels (gone entry s stands may.run) in
-    let stay = kept entry s stands may.run in
-    let sum = parts_of (trees_for dropped + (2 + length entry)) (trees_for entries + trees_for (parcels (pending (take_entry entry s)))) (each n) in
-    let same : (trees_for dropped + (2 + length entry)) + (trees_for entries + trees_for (parcels (pending (take_entry entry s))))
-    ≡ trees_for (entry ∷ entries) + trees_for (parcels (pending s)) = omega (arith, left, own) in
+    let rest = all_within entries next n (has_taken entry s stands may.run).stands may.others_run (omega (arith, small, longer)) in
+    let rest_here : steps_after (taking_all entries next) (replay (taking_one entry s) s.replica.items) ≤ changes_of entries next * each n =
+    subst (λ l. steps_after (taking_all entries next) l ≤ changes_of entries next * each n) (sym (taking_leads entry s stands may.run)) rest in
+    let parts = steps-append (taking_one entry s) (taking_all entries next) s.replica.items in
+    let out = length (gone entry s stands may.run) in
+    let stays = counts_after entry s stands may.run in
+    let all = counts entry s stands may.run in
+    let taken = length-append entry (flattened entries) in
+    let sum = parts_of (out + length entry) (changes_of entries next) (each n) in
+    let same : (out + length entry) + changes_of entries next ≡ changes_of (entry ∷ entries) s = omega (arith, stays, all, taken) in
     let total = ap (λ k. k * each n) same in
-    omega (arith, first, rest, sum, total)
+    omega (arith, first, rest_here, parts, sum, total)
 
-feed_within : (entries : List Parcel) (items : List PlainItem) (n : ℕ) → length items ≤ n → steps_of_feed entries items ≤ each n
-feed_within [] items n small = steps_within items n small
-feed_within (entry ∷ []) items n small = omega arith
-feed_within (entry ∷ other ∷ entries) items n small = steps_within items n small
+-- with the copy on which they are made
+feed_within : (entries : List Parcel) (s : Site) (n : ℕ) → Stands s → AllRun (flattened entries) (ground_of s) → longest_of entries s ≤ n → length s.replica.items ≤ n →
+    steps_of_feed entries s ≤ each n + changes_of entries s * each n
+feed_within [] s n stands run small short = omega arith
+feed_within (entry ∷ []) s n stands run small short =
+    let copy = copy_within (taking_one entry s) s.replica.items n short in
+    let all = all_within (entry ∷ []) s n stands run small in
+    let made = subst (λ ts. steps_after ts s.replica.items ≤ changes_of (entry ∷ []) s * each n) (append-nil (taking_one entry s)) all in
+    omega (arith, copy, made)
+feed_within (entry ∷ other ∷ entries) s n stands run small short =
+    let copy = steps_within s.replica.items n short in
+    let all = all_within (entry ∷ other ∷ entries) s n stands run small in
+    omega (arith, copy, all)
 
 pub take_is_bounded : TakeIsBounded
 take_is_bounded entries s stands run =
     let n = longest_of entries s in
-    let all = all_within entries s n stands run (omega arith) in
     let size : length s.replica.items ≡ length (replay (flattened (parcels (pending s))) (ground_of s)) = ap (λ (l : List PlainItem). length l) stands.holds.list in
     let grown = replay_within (flattened (parcels (pending s))) (ground_of s) stands.holds.runs in
-    let feed = feed_within entries s.replica.items n (omega (arith, size, grown)) in
-    let sum = one_more (trees_for entries + trees_for (parcels (pending s))) (each n) in
-    let e : 1 + (trees_for entries + trees_for (parcels (pending s))) ≡ suc (trees_for entries + trees_for (parcels (pending s))) = omega arith in
+    let feed = feed_within entries s n stands run (omega arith) (omega (arith, size, grown)) in
+    let sum = one_more (changes_of entries s) (each n) in
+    let e : 1 + changes_of entries s ≡ suc (changes_of entries s) = omega arith in
     let total = ap (λ k. k * each n) e in
-    omega (arith, all, feed, sum, total)
+    omega (arith, feed, sum, total)

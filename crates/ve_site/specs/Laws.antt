@@ -9,22 +9,17 @@ use Rattle.model_site.specs.Site.{Site, pending}
 use Rattle.ve_site.specs.Ground.{Stands, ground_of}
 use Rattle.ve_site.specs.Taking.{steps_of_take}
 
--- for each entry two more than it has transactions
-abbrev pub trees_for : List Parcel → ℕ
-trees_for [] = 0
-trees_for (entry ∷ entries) = (2 + length entry) + trees_for entries
-
 -- how long the lists of a take become: the confirmed list with all that the taken entries and the
 -- pending ones insert
 abbrev pub longest_of : List Parcel → Site → ℕ
 longest_of entries s = length (ground_of s) + (inserted_by (flattened entries) + inserted_by (flattened (parcels (pending s))))
 
--- A take makes at most one copy of a page. For each entry that it takes, and for each that is
--- pending, it makes at most two more copies or changes than that has transactions. Each counts at
--- most eight steps for each item of the longest list, and sixteen more.
+-- A take makes at most one copy of a page. Beside it each transaction that it takes counts, and each
+-- that is pending: at most eight steps for each item of the longest list, and sixteen more.
 abbrev pub TakeIsBounded : Type 0
 TakeIsBounded = (entries : List Parcel) (s : Site) → Stands s → AllRun (flattened entries) (ground_of s) →
-    steps_of_take (Foreign entries) s ≤ (1 + (trees_for entries + trees_for (parcels (pending s)))) * (8 * (longest_of entries s + 2))
+    steps_of_take (Foreign entries) s
+    ≤ (1 + (length (flattened entries) + length (flattened (parcels (pending s))))) * (8 * (longest_of entries s + 2))
 
 -- Where the longest list of an entry's take is within the bound of a transaction's lengths, so is
 -- each transaction that the take joins.

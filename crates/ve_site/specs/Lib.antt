@@ -20,5 +20,6 @@ pub mod Settled
 pub mod Refusal
 pub mod Taking
 pub mod Dropped
+pub mod Underway
 pub mod Patches
 pub mod Laws

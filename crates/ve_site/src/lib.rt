@@ -13,8 +13,9 @@
 //! what it takes has to run from its confirmed list (the ground), and what it adopts on its list.
 //! specs/Refusal.antt says how a refusal is told. specs/Counted.antt says what a call performs, by
 //! which its steps are bounded. specs/Taking.antt says both of a take, and specs/Settled.antt
-//! defines the changed copy that a site takes. specs/Dropped.antt serves private functions: pending
-//! entries taken back. So does specs/Patches.antt: what operations change.
+//! defines the changed copy that a site takes. Three files serve private functions:
+//! specs/Dropped.antt (pending entries taken back), specs/Underway.antt (a copy while it takes
+//! entries) and specs/Patches.antt (what operations change).
 //!
 //! Laws: `takes_are_bounded` (specs/Laws.antt) says what a take counts in plain words, and when it
 //! joins no transaction that is too long. `settling_performs` (specs/Settled.antt) says that a site
@@ -23,8 +24,12 @@
 //! It knows neither the server nor other sites.
 //!
 //! The type keeps the invariant on the site's confirmed list: its list with its pending entries
-//! taken back. Neither the opened page nor a committed entry is kept for that. A take is counted by
-//! definition, so one that copied the page for each entry wouldn't meet the bound.
+//! taken back. Neither the opened page nor a committed entry is kept for that.
+//!
+//! A take copies the page at most once, and not at all where one entry makes one transaction; else
+//! want of memory would leave a part of it done. Entries that are in conflict with no pending one
+//! are taken as one run, for which the pending ones are written once. The steps of a take are
+//! counted by definition, so one that copied the page for each entry wouldn't meet the bound.
 //!
 //! What it has not told is noted while it changes, in memory that is taken when it begins. So no
 //! call fails for want of it, and a call that fails notes nothing: the notes are made last.
@@ -35,6 +40,7 @@ mod pending;
 mod sent;
 mod site;
 mod take;
+mod taking;
 mod untold;
 
 pub use laws::{settling_performs, takes_are_bounded};

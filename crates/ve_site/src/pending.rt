@@ -1,12 +1,13 @@
 // Pending entries under an entry of another site.
-ghost use Rattle.std.specs.Prelude.{◌≡◌, ◌≤◌, ◌+◌, ◌++◌, length, map, take, drop, IfOk, OnOk, OnErr};
-ghost use Rattle.model_change.specs.Replay.{flattened, reversal};
-ghost use Rattle.model_site.specs.Entries.{all_reverted, parcels};
+ghost use Rattle.std.specs.Prelude.{◌≡◌, ◌≤◌, ◌+◌, ◌++◌, All, length, map, take, drop, IfOk, OnOk};
+ghost use Rattle.model_change.specs.Replay.{flattened};
+ghost use Rattle.model_site.specs.Entries.{all_reverted};
+ghost use Rattle.model_site.specs.Replica.{all_performed};
 ghost use Rattle.model_site.specs.Untold.{passed};
 ghost use Rattle.ve_tx.specs.ByValue.{parcel_by_value, ParcelCites};
+ghost use Rattle.ve_editor.specs.Counted.{steps_after};
 ghost use Rattle.ve_editor.specs.Edited.{AllStand, entry_by_value};
-ghost use Rattle.ve_site.specs.Dropped.{AreDropped, IsAdmitted, IsStack, numbered_alike};
-ghost use Rattle.ve_site.specs.Taking.{steps_back, steps_under};
+ghost use Rattle.ve_site.specs.Dropped.{AreDropped, IsAdmitted, IsStack, back_over, numbered_alike};
 
 use crate::untold::Untold;
 use std::alloc::Global;
@@ -35,20 +36,19 @@ fn take_back<L: Ledger>(
     ensures counted { steps.old ≤ steps.new }
     ensures steps { steps.new
         ≤ steps.old
-        + steps_back (map (entry_by_value editor.old.store) (drop left (sent.now ++ unsent.now)))
-        editor.old }
+        + steps_after (back_over editor.old.store (drop left (sent.now ++ unsent.now)))
+        editor.old.items }
 {
     let mut at = count;
     while at > left {
         at -= 1;
-        editor.revert(entry_in(sent, unsent, at), steps)?;
+        editor.revert_in_place(entry_in(sent, unsent, at), steps)?;
     }
     Ok(())
 }
 
 /// Takes back all entries but the first so many, and performs a parcel then. It gives how many
-/// values the store has after that. Where none is taken back it is done in place, and else on a
-/// copy, so that an `Err` changes nothing.
+/// values the store has after that. It makes no copy, so an `Err` may leave a part of it done.
 pub fn admit_under<L: Ledger>(
     editor: &mut Editor,
     sent: &[Entry],
@@ -66,25 +66,41 @@ pub fn admit_under<L: Ledger>(
         IsAdmitted editor.old (sent.now ++ unsent.now) left (parcel_by_value committed.now)
         editor.new) }
     ensures stored { IfOk result (λ stored. stored ≡ length editor.new.store) }
-    ensures kept { OnErr result (editor.new ≡ editor.old) }
     ensures counted { steps.old ≤ steps.new }
     ensures steps { steps.new
         ≤ steps.old
-        + steps_under (map (entry_by_value editor.old.store) (drop left (sent.now ++ unsent.now)))
-        (parcel_by_value committed.now) editor.old }
+        + steps_after (
+        back_over editor.old.store (drop left (sent.now ++ unsent.now))
+        ++ parcel_by_value committed.now) editor.old.items }
 {
     let Some(count) = sent.len().checked_add(unsent.len()) else {
         return Err(Memory);
     };
-    if left == count {
-        let entry = editor.admit(committed, steps)?;
-        return Ok(entry.store_after);
-    }
-    let mut other = editor.copy(steps)?;
-    take_back(&mut other, sent, unsent, count, left, steps)?;
-    let last = other.admit(committed, steps)?;
-    *editor = other;
+    take_back(editor, sent, unsent, count, left, steps)?;
+    let last = editor.admit_in_place(committed, steps)?;
     Ok(last.store_after)
+}
+
+/// Performs parcels, one after the other. It makes no copy, so an `Err` may leave some of them
+/// performed.
+pub fn admit_each<L: Ledger>(
+    editor: &mut Editor,
+    parcels: &[Parcel],
+    steps: &mut Steps<L>,
+) -> Result<(), Memory>
+    requires cite { All ParcelCites parcels.now }
+    requires stand { AllStand (flattened (map parcel_by_value parcels.now)) editor.old.items }
+    ensures page { OnOk result (
+        editor.new ≡ all_performed (flattened (map parcel_by_value parcels.now)) editor.old) }
+    ensures counted { steps.old ≤ steps.new }
+    ensures steps { steps.new
+        ≤ steps.old
+        + steps_after (flattened (map parcel_by_value parcels.now)) editor.old.items }
+{
+    for parcel in parcels {
+        editor.admit_in_place(parcel, steps)?;
+    }
+    Ok(())
 }
 
 /// Notes that all entries but the first so many were taken back, the last one first.
@@ -92,10 +108,7 @@ pub fn note_dropped(untold: &mut Untold, sent: &[Entry], unsent: &[Entry], left:
     requires { left ≤ length (sent.now ++ unsent.now) }
     ensures { (values : _)
         → untold.new
-        ≡ passed (
-        reversal (
-        flattened (parcels (map (entry_by_value values) (drop left (sent.now ++ unsent.now))))))
-        untold.old }
+        ≡ passed (back_over values (drop left (sent.now ++ unsent.now))) untold.old }
 {
     untold.note_all_back(&unsent[left.saturating_sub(sent.len())..]);
     untold.note_all_back(&sent[left.min(sent.len())..]);

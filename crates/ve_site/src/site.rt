@@ -35,7 +35,7 @@ pub struct Site {
     // the entries that are not sent, and those that were undone
     pub(crate) history: History,
     // how many entries it sent since the page was opened
-    shared: usize,
+    pub(crate) shared: usize,
     // how many entries the submission has that is on its way
     pub(crate) in_flight: Option<usize>,
     pub(crate) alloc: Global,
@@ -68,7 +68,6 @@ impl Site {
     ghost use Rattle.ve_editor.specs.Counted.{steps_after, steps_over};
     ghost use Rattle.ve_site.specs.Counted.{undoing, redoing};
     ghost use Rattle.ve_server.specs.Fed.{submission_of};
-    ghost use Rattle.ve_tree.specs.TreeOf.{most_steps};
     ghost use Rattle.ve_tx.specs.ByValue.{parcel_by_value, ParcelCites};
     ghost use Rattle.ve_site.specs.Numbered.{with_site};
     ghost use Rattle.ve_site.specs.Settled.{with_new_entry, Settles};
@@ -336,32 +335,6 @@ impl Site {
             site: self.number,
             base: self.seen,
             parcels,
-        })
-    }
-
-    /// The same site with nothing undone.
-    pub(crate) fn copy<L: Ledger>(&self, steps: &mut Steps<L>) -> Result<Site, Memory>
-        ensures ok { IfOk result (λ copy.
-            copy ≡ with_site (record self.now.site { undone = [] }) self.now) }
-        ensures counted { steps.old ≤ steps.new }
-        ensures steps { steps.new ≤ steps.old + most_steps self.now.site.replica.items }
-    {
-        let sent = EntryList::copy_of(self.alloc, self.sent.as_slice())?;
-        let done = EntryList::copy_of(self.alloc, self.history.done())?;
-        let untold = self.untold.copy(self.alloc)?;
-        let editor = self.editor.copy(steps)?;
-        let mut history = History::new(self.alloc);
-        let _none = history.replace_done(done);
-        Ok(Site {
-            number: self.number,
-            editor,
-            untold,
-            seen: self.seen,
-            sent: sent.into_vec(),
-            history,
-            shared: self.shared,
-            in_flight: self.in_flight,
-            alloc: self.alloc,
         })
     }
 }

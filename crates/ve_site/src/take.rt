@@ -1,17 +1,21 @@
 // What a site takes from the server.
-ghost use Rattle.std.specs.Prelude.{◌≡◌, ◌≤◌, ◌+◌, length, IfOk, OnOk, OnErr};
+ghost use Rattle.std.specs.Prelude.{◌≡◌, ◌≤◌, ◌+◌, All, length, map, None, IfOk, OnOk, OnErr};
 ghost use Rattle.model_change.specs.Replay.{AllRun, flattened};
 ghost use Rattle.model_site.specs.Session.{site_after, taken_as};
 ghost use Rattle.model_site.specs.Site.{pending};
-ghost use Rattle.model_site.specs.Take.{take_ack, take_entry, take_foreign};
+ghost use Rattle.model_site.specs.Take.{take_ack, take_foreign};
+ghost use Rattle.ve_editor.specs.Counted.{steps_after};
 ghost use Rattle.ve_server.specs.Fed.{feed_of};
 ghost use Rattle.ve_site.specs.Ground.{ground_of};
 ghost use Rattle.ve_site.specs.Numbered.{with_site};
-ghost use Rattle.ve_site.specs.Taking.{MayTake, steps_of_feed, steps_of_take, steps_to_take, steps_to_take_all};
+ghost use Rattle.ve_site.specs.Taking.{MayTake, steps_of_feed, steps_of_take, taking_all, taking_one};
+ghost use Rattle.ve_site.specs.Underway.{AreTakenInPlace, IsTakenInPlace, IsTaking, taking_site};
+ghost use Rattle.ve_tree.specs.TreeOf.{most_steps};
 ghost use Rattle.ve_tx.specs.ByValue.{parcel_by_value, ParcelCites};
 
 use crate::Site;
-use crate::pending::{admit_under, note_dropped, parted, renumbered};
+use crate::pending::{parted, renumbered};
+use crate::taking::Taking;
 use model_site::Taken;
 use std::sync::ledger::Ledger;
 use ve_base::{Memory, Steps};
@@ -30,54 +34,141 @@ impl Site {
         }
     }
 
-    /// Takes an entry of another site, and gives how many entries are still pending. An `Err`
-    /// changes nothing.
-    fn take_entry<L: Ledger>(
+    /// Takes an entry of another site in place, where it makes at most one transaction, and gives
+    /// how many entries are still pending. It is `None` where the entry makes more, and nothing
+    /// changes then: a copy of the page has to be made first. An `Err` changes nothing.
+    fn take_single<L: Ledger>(
         &mut self,
         foreign: &Parcel,
         steps: &mut Steps<L>,
-    ) -> Result<usize, Memory>
+    ) -> Result<Option<usize>, Memory>
         requires cites { ParcelCites foreign.now }
         requires run { AllRun (parcel_by_value foreign.now) (ground_of self.old.site) }
-        ensures site { OnOk result (
-            self.new
-            ≡ with_site (take_entry (parcel_by_value foreign.now) self.old.site) self.old) }
-        ensures left { IfOk result (λ left. left ≡ length (pending self.new.site)) }
+        ensures taken { IfOk result (λ taken.
+            IsTakenInPlace (parcel_by_value foreign.now) self.old taken self.new) }
         ensures kept { OnErr result (self.new ≡ self.old) }
         ensures counted { steps.old ≤ steps.new }
         ensures steps { steps.new
-            ≤ steps.old + steps_to_take (parcel_by_value foreign.now) self.old.site }
+            ≤ steps.old
+            + steps_after (taking_one (parcel_by_value foreign.now) self.old.site)
+            self.old.site.replica.items }
+        ensures unstepped { IfOk result (λ taken. taken ≡ None → steps.new ≡ steps.old) }
     {
+        if foreign.entry.txs.as_slice().len() > 1 {
+            return Ok(None);
+        }
         let Some(seen) = self.seen.checked_add(1) else {
             return Err(Memory);
         };
+        let count = self.pending_len()?;
         let own_sent = self.sent.as_slice();
-        let own_unsent = self.history.done();
         let EntriesUnder { committed, kept } = entries_under(
-            self.alloc, foreign, own_sent, own_unsent,
+            self.alloc,
+            foreign,
+            own_sent,
+            self.history.done(),
         )?;
         let left = kept.as_slice().len();
+        if left < count {
+            return Ok(None);
+        }
         let (sent, unsent) = parted(self.alloc, kept, own_sent.len())?;
-        let stored = admit_under(
-            &mut self.editor,
-            own_sent,
-            own_unsent,
-            left,
-            &committed,
-            steps,
-        )?;
-        note_dropped(&mut self.untold, own_sent, own_unsent, left);
+        let stored = self.editor.admit(&committed, steps)?.store_after;
         self.untold.note(committed.entry.txs.as_slice());
         self.seen = seen;
         self.sent = renumbered(sent, stored);
         let done = EntryList::from_vec(renumbered(unsent, stored));
         let _gone = self.history.replace_done(done);
         self.history.clear_undone();
+        Ok(Some(left))
+    }
+
+    /// Takes entries of other sites in place, where no copy of the page has to be made first, and
+    /// gives how many entries are still pending. Where one has, it is `None`, and nothing changes.
+    /// An `Err` changes nothing.
+    fn take_in_place<L: Ledger>(
+        &mut self,
+        parcels: &[Parcel],
+        steps: &mut Steps<L>,
+    ) -> Result<Option<usize>, Memory>
+        requires cite { All ParcelCites parcels.now }
+        requires run { AllRun (flattened (map parcel_by_value parcels.now))
+            (ground_of self.old.site) }
+        ensures taken { IfOk result (λ taken.
+            AreTakenInPlace (map parcel_by_value parcels.now) self.old taken self.new) }
+        ensures kept { OnErr result (self.new ≡ self.old) }
+        ensures counted { steps.old ≤ steps.new }
+        ensures steps { steps.new
+            ≤ steps.old + steps_of_feed (map parcel_by_value parcels.now) self.old.site }
+        ensures unstepped { IfOk result (λ taken. taken ≡ None → steps.new ≡ steps.old) }
+    {
+        if parcels.is_empty() {
+            let left = self.pending_len()?;
+            self.history.clear_undone();
+            return Ok(Some(left));
+        }
+        if parcels.len() > 1 {
+            return Ok(None);
+        }
+        self.take_single(&parcels[0], steps)
+    }
+
+    /// A copy that took entries of other sites takes the place of the site.
+    fn replace_with(&mut self, taking: Taking)
+        requires { IsTaking taking }
+        ensures { self.new ≡ with_site (taking_site taking) self.old }
+    {
+        let Taking {
+            editor,
+            untold,
+            seen,
+            sent,
+            unsent,
+            shared,
+            in_flight,
+            ..
+        } = taking;
+        self.editor = editor;
+        self.untold = untold;
+        self.seen = seen;
+        self.sent = sent;
+        let _gone = self.history.replace_done(unsent);
+        self.history.clear_undone();
+        self.shared = shared;
+        self.in_flight = in_flight;
+    }
+
+    /// Takes entries of other sites, one after the other, on a copy, which takes the place of its
+    /// own then. It gives how many entries are still pending. An `Err` changes nothing.
+    fn take_on_copy<L: Ledger>(
+        &mut self,
+        parcels: &[Parcel],
+        steps: &mut Steps<L>,
+    ) -> Result<usize, Memory>
+        requires cite { All ParcelCites parcels.now }
+        requires run { AllRun (flattened (map parcel_by_value parcels.now))
+            (ground_of self.old.site) }
+        ensures site { OnOk result (
+            self.new
+            ≡ with_site (take_foreign (map parcel_by_value parcels.now) self.old.site) self.old) }
+        ensures left { IfOk result (λ left. left ≡ length (pending self.new.site)) }
+        ensures kept { OnErr result (self.new ≡ self.old) }
+        ensures counted { steps.old ≤ steps.new }
+        ensures steps { steps.new
+            ≤ steps.old
+            + (most_steps self.old.site.replica.items
+            + steps_after (taking_all (map parcel_by_value parcels.now) self.old.site)
+            self.old.site.replica.items) }
+    {
+        let mut taking = Taking::of(self, steps)?;
+        taking.take_all(parcels, steps)?;
+        let left = taking.pending_len()?;
+        self.replace_with(taking);
         Ok(left)
     }
 
     /// Takes entries of other sites, one after the other, and gives how many entries are still
-    /// pending. One is taken in place, and more on a copy, so that an `Err` changes nothing.
+    /// pending. An `Err` changes nothing.
     fn take_foreign<L: Ledger>(
         &mut self,
         entries: &Parcels,
@@ -89,22 +180,13 @@ impl Site {
         ensures left { IfOk result (λ left. left ≡ length (pending self.new.site)) }
         ensures kept { OnErr result (self.new ≡ self.old) }
         ensures counted { steps.old ≤ steps.new }
-        ensures steps { steps.new
-            ≤ steps.old
-            + (steps_of_feed entries.now self.old.site.replica.items
-            + steps_to_take_all entries.now self.old.site) }
+        ensures steps { steps.new ≤ steps.old + steps_of_feed entries.now self.old.site }
     {
         let parcels = entries.as_slice();
-        if parcels.len() == 1 {
-            return self.take_entry(&parcels[0], steps);
+        if let Some(left) = self.take_in_place(parcels, steps)? {
+            return Ok(left);
         }
-        let mut taken = self.copy(steps)?;
-        let mut left = taken.pending_len()?;
-        for parcel in parcels {
-            left = taken.take_entry(parcel, steps)?;
-        }
-        *self = taken;
-        Ok(left)
+        self.take_on_copy(parcels, steps)
     }
 
     /// Takes the answer to what it sent: the entries that it still holds as sent are committed. An

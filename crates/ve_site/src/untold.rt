@@ -6,6 +6,7 @@ ghost use Rattle.model_site.specs.Untold.{all_untold, none_untold, passed, told,
 ghost use Rattle.ve_base.specs.Limits.{max_total_length};
 ghost use Rattle.ve_editor.specs.Edited.{entry_by_value};
 ghost use Rattle.ve_site.specs.Patches.{after_op, all_changed, all_turned, changed_at};
+ghost use Rattle.ve_tx.specs.ByValue.{parcel_by_value};
 ghost use Rattle.ve_tx.specs.Normal.{size, total_size};
 ghost use Rattle.ve_tx.specs.Operation.{by_value};
 ghost use Rattle.ve_tx.specs.Turned.{op_back};
@@ -14,7 +15,7 @@ use model_site::{MAX_PATCHES, Patch};
 use std::alloc::Global;
 use std::marker::Model;
 use ve_base::Memory;
-use ve_tx::{Entry, Op, Transaction};
+use ve_tx::{Entry, Op, Parcel, Transaction};
 
 /// What changed in a list since it was told, as patches. Over the most that are told one by one,
 /// one more is kept and no other. It has memory for these from the start, so noting takes none.
@@ -201,6 +202,16 @@ impl Untold {
         while at > 0 {
             at -= 1;
             self.note_back(entries[at].txs.as_slice());
+        }
+    }
+
+    /// Notes parcels that were performed, one after the other.
+    pub fn note_parcels(&mut self, parcels: &[Parcel])
+        ensures { self.new ≡ passed (flattened (map parcel_by_value parcels.now)) self.old }
+    {
+        let _within = &self.patches;
+        for parcel in parcels {
+            self.note(parcel.entry.txs.as_slice());
         }
     }
 

@@ -1,8 +1,7 @@
-use Rattle.std.proofs.Common.{◌≡◌, ◌≤◌, ◌<◌, ◌+◌, ◌-◌, ◌++◌, length, map, take, drop, subst, arith}
+use Rattle.std.proofs.Common.{◌≡◌, ◌≤◌, ◌<◌, ◌+◌, ◌-◌, ◌++◌, length, take, drop, subst, arith}
 use Rattle.std.proofs.lemmas.List.{length-append}
-use Rattle.ve_editor.specs.Edited.{entry_by_value}
-use Rattle.ve_site.specs.Dropped.{AreDropped}
-use Rattle.ve_site.specs.Taking.{steps_back}
+use Rattle.ve_editor.specs.Counted.{steps_after}
+use Rattle.ve_site.specs.Dropped.{AreDropped, back_over}
 use Rattle.ve_site.proofs.DropLemmas.{at_cites, at_counts, at_gone, at_may_go, at_uncited, gone_within, none_taken_back}
 use Rattle.ve_site.proofs.pending.take_back.Goals as goal
 
@@ -20,24 +19,24 @@ entry_in-requires g c =
     let size = length-append c.args.sent.now c.args.unsent.now in
     omega (arith, size, c.requires.count, c.loop-at.invariant.within, c.loop-at-test.true)
 
-pub revert-requires-clause-cites : goal.revert-requires-clause-cites
-revert-requires-clause-cites g c =
+pub revert_in_place-requires-clause-cites : goal.revert_in_place-requires-clause-cites
+revert_in_place-requires-clause-cites g c =
     let all = c.args.sent.now ++ c.args.unsent.now in
     let k = c.loop-at.at - 1 in
     let next : c.loop-at.at ≡ k + 1 = omega (arith, c.loop-at-test.true) in
     let below : k < length all = omega (arith, c.requires.count, c.loop-at.invariant.within, c.loop-at-test.true) in
     at_cites c.args.editor.now c.loop-at.editor all c.loop-at.at k c.entry_in.result.now c.loop-at.invariant.dropped next below c.entry_in.ensures
 
-pub revert-requires-clause-stands : goal.revert-requires-clause-stands
-revert-requires-clause-stands g c =
+pub revert_in_place-requires-clause-stands : goal.revert_in_place-requires-clause-stands
+revert_in_place-requires-clause-stands g c =
     let all = c.args.sent.now ++ c.args.unsent.now in
     let k = c.loop-at.at - 1 in
     let next : c.loop-at.at ≡ k + 1 = omega (arith, c.loop-at-test.true) in
     let below : k < length all = omega (arith, c.requires.count, c.loop-at.invariant.within, c.loop-at-test.true) in
     at_may_go c.args.editor.now c.loop-at.editor all c.loop-at.at k c.entry_in.result.now c.loop-at.invariant.dropped next below c.entry_in.ensures
 
-pub revert-requires-clause-uncited : goal.revert-requires-clause-uncited
-revert-requires-clause-uncited g c =
+pub revert_in_place-requires-clause-uncited : goal.revert_in_place-requires-clause-uncited
+revert_in_place-requires-clause-uncited g c =
     let all = c.args.sent.now ++ c.args.unsent.now in
     let k = c.loop-at.at - 1 in
     let next : c.loop-at.at ≡ k + 1 = omega (arith, c.loop-at-test.true) in
@@ -53,22 +52,22 @@ loop-at-preserved g c =
     record {
       from = omega (arith, c.loop-at-test.true);
       within = omega (arith, c.loop-at.invariant.within);
-      dropped = at_gone c.args.editor.now c.loop-at.editor all c.loop-at.at k c.entry_in.result.now c.loop-at.invariant.dropped next below c.entry_in.ensures c.revert.new.self
-          c.in_ok-revert.ensures.page;
-      counted = omega (arith, c.loop-at.invariant.counted, c.revert.ensures.counted);
+      dropped = at_gone c.args.editor.now c.loop-at.editor all c.loop-at.at k c.entry_in.result.now c.loop-at.invariant.dropped next below c.entry_in.ensures c.revert_in_place.new.self
+          c.in_ok-revert_in_place.ensures.page;
+      counted = omega (arith, c.loop-at.invariant.counted, c.revert_in_place.ensures.counted);
       spent = at_counts c.args.editor.now c.loop-at.editor all c.loop-at.at k c.entry_in.result.now c.loop-at.invariant.dropped next below c.entry_in.ensures c.args.steps.now c.loop-at.steps
-          c.revert.new.steps c.loop-at.invariant.spent c.revert.ensures.steps;
+          c.revert_in_place.new.steps c.loop-at.invariant.spent c.revert_in_place.ensures.steps;
     }
 
-pub returns-in_err-revert-clause-steps : goal.returns-in_err-revert-clause-steps
-returns-in_err-revert-clause-steps g c =
+pub returns-in_err-revert_in_place-clause-steps : goal.returns-in_err-revert_in_place-clause-steps
+returns-in_err-revert_in_place-clause-steps g c =
     let all = c.args.sent.now ++ c.args.unsent.now in
     let k = c.loop-at.at - 1 in
     let next : c.loop-at.at ≡ k + 1 = omega (arith, c.loop-at-test.true) in
     let below : k < length all = omega (arith, c.requires.count, c.loop-at.invariant.within, c.loop-at-test.true) in
     let one = at_counts c.args.editor.now c.loop-at.editor all c.loop-at.at k c.entry_in.result.now c.loop-at.invariant.dropped next below c.entry_in.ensures c.args.steps.now c.loop-at.steps
-    c.revert.new.steps c.loop-at.invariant.spent c.revert.ensures.steps in
-    let more = gone_within c.args.editor.now.store all c.args.left k c.args.editor.now (omega (arith, c.loop-at-test.true)) in
+    c.revert_in_place.new.steps c.loop-at.invariant.spent c.revert_in_place.ensures.steps in
+    let more = gone_within c.args.editor.now.store all c.args.left k c.args.editor.now.items (omega (arith, c.loop-at-test.true)) in
     omega (arith, one, more)
 
 pub returns-clause-dropped : goal.returns-clause-dropped
@@ -81,4 +80,4 @@ pub returns-clause-steps : goal.returns-clause-steps
 returns-clause-steps g c =
     let all = c.args.sent.now ++ c.args.unsent.now in
     let same : c.loop-at.at ≡ c.args.left = omega (arith, c.loop-at.invariant.from, c.loop-at-test.false) in
-    subst (λ n. c.loop-at.steps ≤ c.args.steps.now + steps_back (map (entry_by_value c.args.editor.now.store) (drop n all)) c.args.editor.now) same c.loop-at.invariant.spent
+    subst (λ n. c.loop-at.steps ≤ c.args.steps.now + steps_after (back_over c.args.editor.now.store (drop n all)) c.args.editor.now.items) same c.loop-at.invariant.spent

@@ -1,7 +1,6 @@
-use Rattle.std.proofs.Common.{◌≤◌, ◌+◌, ◌++◌, map, take, drop}
-use Rattle.ve_editor.specs.Edited.{entry_by_value}
-use Rattle.ve_site.specs.Dropped.{AreDropped}
-use Rattle.ve_site.specs.Taking.{steps_back}
+use Rattle.std.proofs.Common.{◌≤◌, ◌+◌, ◌++◌, take, drop}
+use Rattle.ve_editor.specs.Counted.{steps_after}
+use Rattle.ve_site.specs.Dropped.{AreDropped, back_over}
 use Rattle.ve_site.proofs.pending.take_back.Given as goal
 
 abbrev pub invariant-loop-at : goal.invariant-loop-at
@@ -10,7 +9,7 @@ invariant-loop-at g l = record {
   within : l.at ≤ l.count;
   dropped : AreDropped l.fn.editor (take l.at (l.sent ++ l.unsent)) (drop l.at (l.sent ++ l.unsent)) l.editor;
   counted : l.fn.steps ≤ l.steps;
-  spent : l.steps ≤ l.fn.steps + steps_back (map (entry_by_value l.fn.editor.store) (drop l.at (l.sent ++ l.unsent))) l.fn.editor;
+  spent : l.steps ≤ l.fn.steps + steps_after (back_over l.fn.editor.store (drop l.at (l.sent ++ l.unsent))) l.fn.editor.items;
 }
 
 abbrev pub decreases-loop-at : goal.decreases-loop-at

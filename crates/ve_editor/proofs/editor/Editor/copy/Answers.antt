@@ -4,8 +4,8 @@ use Rattle.ve_tree.specs.IsTree.{unvalued}
 use Rattle.ve_tree.specs.TreeOf.{IsTreeOf}
 use Rattle.ve_editor.proofs.editor.Editor.copy.Goals as goal
 
-pub copy-tree-requires : goal.copy-tree-requires
-copy-tree-requires g c = record { items = unvalued c.self.inside.list.items; tree = c.self.invariant.tree.links }
+pub copy-requires-3 : goal.copy-requires-3
+copy-requires-3 g c = record { items = unvalued c.self.inside.list.items; tree = c.self.invariant.tree.links }
 
 pub invariant_of-result : goal.invariant_of-result
 invariant_of-result g c =

@@ -4,7 +4,8 @@ use Rattle.model_change.specs.Replay.{reversal}
 use Rattle.model_site.specs.Untold.{Untold, max_patches, passed}
 use Rattle.ve_tx.specs.Operation.{Operation, by_value}
 use Rattle.ve_tx.specs.declared.entry.Entry.{Entry}
-use Rattle.ve_site.proofs.NotedLemmas.{back_over, entry_undone}
+use Rattle.ve_site.specs.Dropped.{back_over}
+use Rattle.ve_site.proofs.NotedLemmas.{entry_undone}
 use Rattle.ve_site.proofs.PatchLemmas.{next_is, with_none}
 use Rattle.ve_site.proofs.untold.Untold.note_all_back.Goals as goal
 

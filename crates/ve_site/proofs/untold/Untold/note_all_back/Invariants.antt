@@ -1,7 +1,7 @@
 use Rattle.std.proofs.Common.{◌≡◌, ◌≤◌, List, length, drop}
 use Rattle.ve_base.specs.declared.value.Value.{Value}
 use Rattle.model_site.specs.Untold.{passed}
-use Rattle.ve_site.proofs.NotedLemmas.{back_over}
+use Rattle.ve_site.specs.Dropped.{back_over}
 use Rattle.ve_site.proofs.untold.Untold.note_all_back.Given as goal
 
 abbrev pub invariant-loop-at : goal.invariant-loop-at

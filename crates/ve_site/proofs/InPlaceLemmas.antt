@@ -1,0 +1,97 @@
+-- An entry of another site taken in place, where no pending one is dropped for it, and a feed that
+-- is taken so, or on a copy.
+use Rattle.std.proofs.Common.{◌≡◌, ◌≤◌, ◌+◌, ◌==◌, false, true, ℕ, zero, suc, List, [], ◌∷◌, ◌++◌, length, map, drop, get_or, Option, Some, None, refl, sym, ap, ◌∙◌, subst, arith}
+use Rattle.std.proofs.lemmas.List.{append-nil, drop_all}
+use Rattle.ve_base.specs.declared.value.Value.{Value}
+use Rattle.model_change.specs.Replay.{AllRun, flattened}
+use Rattle.model_change.specs.Transaction.{Transaction}
+use Rattle.model_site.specs.Entries.{Entry as ModelEntry}
+use Rattle.model_site.specs.Entries.{Parcel as ModelParcel, all_reverted}
+use Rattle.model_site.specs.Replica.{Replica, all_performed}
+use Rattle.model_site.specs.Site.{Site}
+use Rattle.model_site.specs.Take.{take_entry, take_foreign}
+use Rattle.model_site.specs.Untold.{Untold, passed}
+use Rattle.ve_tx.specs.declared.entry.Entry.{Entry}
+use Rattle.ve_tx.specs.declared.parcel.Parcel.{Parcel}
+use Rattle.ve_tx.specs.ByValue.{parcel_by_value}
+use Rattle.ve_editor.specs.Counted.{steps_after, steps_over}
+use Rattle.ve_editor.specs.Edited.{AllStand, entry_by_value}
+use Rattle.ve_tree.specs.TreeOf.{most_steps}
+use Rattle.ve_site.specs.declared.taking.Taking.{Taking}
+use Rattle.ve_site.specs.Dropped.{IsAdmitted, IsStack, back_over}
+use Rattle.ve_site.specs.Ground.{ground_of}
+use Rattle.ve_site.specs.Numbered.{Numbered, with_site}
+use Rattle.ve_site.specs.Taking.{steps_of_feed, taking_all, taking_one}
+use Rattle.ve_site.specs.Underway.{AreTakenInPlace, IsTakenInPlace, MakesCopy, taking_site}
+use Rattle.ve_site.proofs.DropLemmas.{none_taken_back}
+use Rattle.ve_site.proofs.MakingLemmas.{making_anyway}
+use Rattle.ve_site.proofs.SeveralLemmas.{one_makes_copy}
+use Rattle.ve_site.proofs.TakenLemmas.{taken_anyway}
+
+-- ---- where none is dropped
+
+module _ (editor : Replica) (all : List Entry) (left : ℕ) (ts : ModelParcel) (whole : length all ≤ left) where
+  none_gone : map (entry_by_value editor.store) (drop left all) ≡ []
+  none_gone = ap (map (entry_by_value editor.store)) (drop_all left all whole)
+
+  pub stands_in_place : AllStand ts (all_reverted (map (entry_by_value editor.store) (drop left all)) editor).items → AllStand ts editor.items
+  stands_in_place h = subst (λ (es : List ModelEntry). AllStand ts (all_reverted es editor).items) none_gone h
+
+  no_reversal : back_over editor.store (drop left all) ++ ts ≡ ts
+  no_reversal = ap (λ es. back_over editor.store es ++ ts) (drop_all left all whole)
+
+  pub noted_in_place : (old new : Untold) → new ≡ passed ts old → new ≡ passed (back_over editor.store (drop left all) ++ ts) old
+  noted_in_place old new h = h ∙ ap (λ us. passed us old) (sym no_reversal)
+
+  pub counts_in_place : (before after : ℕ) → after ≤ before + steps_after ts editor.items → after ≤ before + steps_after (back_over editor.store (drop left all) ++ ts) editor.items
+  counts_in_place before after h = subst (λ us. after ≤ before + steps_after us editor.items) (sym no_reversal) h
+
+pub admitted_in_place : (old new : Replica) (all : List Entry) (left : ℕ) (ts : ModelParcel) → IsStack old all → left ≡ length all → new ≡ all_performed ts old → IsAdmitted old all left ts new
+admitted_in_place old new all left ts stack whole page = record { middle = old; dropped = none_taken_back old all left stack whole; page = page }
+
+-- one transaction at most is made without a copy
+pub one_in_place : (ts : List Transaction) (r : Replica) (before after : ℕ) → length ts ≤ 1 → after ≤ before + steps_over ts r.items → after ≤ before + steps_after ts r.items
+one_in_place [] r before after one h = h
+one_in_place (t ∷ []) r before after one h = omega (arith, h)
+one_in_place (t ∷ u ∷ ts) r before after one h = absurd (omega (arith, one))
+
+-- ---- a feed of one entry
+
+only_one : {A : Type 0} (xs : List A) (x : A) → length xs ≡ 1 → x ≡ get_or xs 0 x → xs ≡ x ∷ []
+only_one [] x n is = absurd (omega (arith, n))
+only_one (y ∷ []) x n is = ap (λ z. z ∷ []) (sym is)
+only_one (y ∷ z ∷ xs) x n is = absurd (omega (arith, n))
+
+pub just_one : (n : ℕ) → n ≤ 1 → false ≡ (n == 0) → n ≡ 1
+just_one zero le some = let never : false ≡ true = some in cc
+just_one (suc n) le some = omega (arith, le)
+
+module _ (parcels : List Parcel) (one : Parcel) (n : length parcels ≡ 1) (is : one ≡ get_or parcels 0 one) where
+  alone : map parcel_by_value parcels ≡ parcel_by_value one ∷ []
+  alone = ap (map parcel_by_value) (only_one parcels one n is)
+
+  pub one_runs : (s : Site) → AllRun (flattened (map parcel_by_value parcels)) (ground_of s) → AllRun (parcel_by_value one) (ground_of s)
+  one_runs s run = subst (λ us. AllRun us (ground_of s)) (ap flattened alone ∙ append-nil (parcel_by_value one)) run
+
+  pub one_taken : (old new : Numbered) (taken : Option ℕ) → IsTakenInPlace (parcel_by_value one) old taken new → AreTakenInPlace (map parcel_by_value parcels) old taken new
+  one_taken old new (Some left) h = (h.0 ∙ ap (λ ps. with_site (take_foreign ps old.site) old) (sym alone), h.1)
+  one_taken old new None h = (h.0, subst (λ ps. MakesCopy ps old.site) (sym alone) (one_makes_copy (parcel_by_value one) old.site h.1))
+
+  pub one_counts : (s : Site) (before after : ℕ) → after ≤ before + steps_after (taking_one (parcel_by_value one) s) s.replica.items →
+      after ≤ before + steps_of_feed (map parcel_by_value parcels) s
+  one_counts s before after h = subst (λ ps. after ≤ before + steps_of_feed ps s) (sym alone) (omega (arith, h))
+
+-- ---- on a copy
+
+module _ (entries : List ModelParcel) (s : Site) (copy : Taking) (is : taking_site copy ≡ record s { undone = [] }) where
+  pub copy_runs : AllRun (flattened entries) (ground_of s) → AllRun (flattened entries) (ground_of (taking_site copy))
+  copy_runs run = subst (λ t. AllRun (flattened entries) (ground_of t)) (sym is) run
+
+  pub copy_takes : take_foreign entries (taking_site copy) ≡ take_foreign entries s
+  copy_takes = ap (take_foreign entries) is ∙ taken_anyway entries s
+
+  pub copy_counts : (before between after : ℕ) → between ≤ before + most_steps s.replica.items → after ≤ between + steps_after (taking_all entries (taking_site copy)) copy.editor.items →
+      after ≤ before + (most_steps s.replica.items + steps_after (taking_all entries s) s.replica.items)
+  copy_counts before between after h k =
+      let same = ap (λ (t : Site). steps_after (taking_all entries t) t.replica.items) is ∙ ap (λ ts. steps_after ts s.replica.items) (sym (making_anyway entries s)) in
+      omega (arith, h, k, same)

@@ -1,0 +1,44 @@
+-- A copy of a site while it takes entries of other sites. For private functions.
+use Rattle.std.specs.Prelude.{◌≡◌, ◌≤◌, ℕ, ◌+◌, List, length, map, take, Option, Some, None}
+use Rattle.model_change.specs.Transaction.{Transaction}
+use Rattle.model_site.specs.Entries.{Parcel as ModelParcel}
+use Rattle.model_site.specs.Site.{Site, pending}
+use Rattle.model_site.specs.Take.{take_entry, take_foreign}
+use Rattle.ve_editor.specs.Counted.{steps_after}
+use Rattle.ve_tree.specs.TreeOf.{most_steps}
+use Rattle.ve_tx.specs.declared.parcel.Parcel.{Parcel}
+use Rattle.ve_tx.specs.ByValue.{parcel_by_value}
+use Rattle.ve_site.specs.declared.taking.Taking.{Taking}
+use Rattle.ve_site.specs.Dropped.{only_done}
+use Rattle.ve_site.specs.Numbered.{Numbered, site_of, with_site, IsSite}
+use Rattle.ve_site.specs.Taking.{steps_of_feed, taking_all, taking_one}
+
+-- what it would be as a site
+abbrev pub taking_site : Taking → Site
+taking_site t = site_of t.editor t.untold t.seen t.sent.items (only_done t.unsent) t.shared t.in_flight
+
+-- it keeps the invariant of a site
+abbrev pub IsTaking : Taking → Type 0
+IsTaking t = IsSite t.editor t.seen t.sent.items (only_done t.unsent) t.shared t.in_flight
+
+-- the first so many of these entries are taken
+pub record HaveTaken (parcels : List Parcel) (old : Taking) (count : ℕ) (new : Taking) : Type 0 where
+  pub within : count ≤ length parcels
+  pub site : taking_site new ≡ take_foreign (map parcel_by_value (take count parcels)) (taking_site old)
+  pub is : IsTaking new
+
+-- these entries are taken on a copy
+abbrev pub MakesCopy : List ModelParcel → Site → Type 0
+MakesCopy entries s = steps_of_feed entries s ≡ most_steps s.replica.items + steps_after (taking_all entries s) s.replica.items
+
+-- An entry is taken in place, and so many are pending then. Or nothing changes: it makes two
+-- transactions at least.
+abbrev pub IsTakenInPlace : ModelParcel → Numbered → Option ℕ → Numbered → Type 0
+IsTakenInPlace foreign old (Some left) new = (new ≡ with_site (take_entry foreign old.site) old) × (left ≡ length (pending new.site))
+IsTakenInPlace foreign old None new = (new ≡ old) × (2 ≤ length (taking_one foreign old.site))
+
+-- Entries are taken in place, and so many are pending then. Or nothing changes, since they have to
+-- be taken on a copy.
+abbrev pub AreTakenInPlace : List ModelParcel → Numbered → Option ℕ → Numbered → Type 0
+AreTakenInPlace entries old (Some left) new = (new ≡ with_site (take_foreign entries old.site) old) × (left ≡ length (pending new.site))
+AreTakenInPlace entries old None new = (new ≡ old) × MakesCopy entries old.site
