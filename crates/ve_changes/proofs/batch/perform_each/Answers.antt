@@ -44,8 +44,8 @@ returns-in-Err-clause-refused g c =
 
 pub returns-in-Err-clause-steps : goal.returns-in-Err-clause-steps
 returns-in-Err-clause-steps g c = λ h.
-    let other = λ e. h (c.stop_at.ensures ∙ ap (stop_at c.loop-at.at) e) in
-    cost_stopped_at c.args.editor.now c.loop-at.editor c.args.changes.now c.index-changes-at.result c.loop-at.at c.loop-at.entry c.loop-at-test.true c.index-changes-at.is c.loop-at.invariant.0 c.args.steps.now c.loop-at.steps c.perform_one.new.steps c.loop-at.invariant.2 (c.in-Err.ensures.steps other)
+    cost_stopped_at c.args.editor.now c.loop-at.editor c.args.changes.now c.index-changes-at.result c.loop-at.at c.loop-at.entry c.loop-at-test.true c.index-changes-at.is c.loop-at.invariant.0 c.args.steps.now c.loop-at.steps c.perform_one.new.steps c.loop-at.invariant.2
+    (c.in-Err.ensures.steps (λ e. h (c.stop_at.ensures ∙ ap (stop_at c.loop-at.at) e)))
 
 pub returns-in_err-append-in-Ok-clause-steps : goal.returns-in_err-append-in-Ok-clause-steps
 returns-in_err-append-in-Ok-clause-steps g c = λ _.
