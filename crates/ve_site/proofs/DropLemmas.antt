@@ -1,12 +1,12 @@
 -- Pending entries taken back, the last one first.
 use Rattle.std.proofs.Common.{◌≡◌, ◌≤◌, ◌<◌, ◌+◌, ◌-◌, ℕ, zero, suc, List, [], ◌∷◌, ◌++◌, length, map, take, drop, slice_get, get_or, Option, Some, None, refl, sym, ap, ◌∙◌, subst, arith}
-use Rattle.std.proofs.lemmas.List.{map-append, length-append, length-drop, length-map, drop-map, drop_all, take_all, take_more, at_drop_more}
+use Rattle.std.proofs.lemmas.List.{map-append, length-append, drop_all, take_all, take_more, at_drop_more}
 use Rattle.std.proofs.lemmas.List.Elements.{All-nil, All-head}
 use Rattle.std.proofs.Math.Seq.{take-append_seam}
 use Rattle.model_items.specs.declared.plain_item.PlainItem.{PlainItem}
 use Rattle.model_change.specs.Replay.{flattened, replay, reversal}
 use Rattle.model_change.specs.Transaction.{Transaction}
-use Rattle.model_site.specs.Entries.{Parcel as ModelParcel, all_reverted, parcels, reverted}
+use Rattle.model_site.specs.Entries.{Parcel as ModelParcel, parcels, reverted}
 use Rattle.model_site.specs.Entries.{Entry as ModelEntry}
 use Rattle.model_site.specs.Replica.{Replica}
 use Rattle.model_site.specs.Untold.{Untold, none_untold, passed}

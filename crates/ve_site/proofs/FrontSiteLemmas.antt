@@ -1,6 +1,6 @@
 -- The meaning of a site's fields once it took entries of other sites that are in conflict with no
 -- pending one, and that they are a site's again.
-use Rattle.std.proofs.Common.{◌≡◌, ◌≤◌, ◌<◌, ◌+◌, ℕ, List, [], ◌∷◌, ◌++◌, length, map, flat_map, take, drop, All, Option, refl, sym, ap, ◌∙◌, subst, arith}
+use Rattle.std.proofs.Common.{◌≡◌, ◌<◌, ◌+◌, ℕ, List, [], ◌∷◌, ◌++◌, length, map, take, drop, All, Option, refl, sym, ap, ◌∙◌, subst}
 use Rattle.std.proofs.lemmas.List.{length-map, length-take-le, map-append, take-append-drop}
 use Rattle.model_change.specs.Replay.{AllRun, flattened}
 use Rattle.model_site.specs.Entries.{Parcel as ModelParcel, parcels}
@@ -11,7 +11,7 @@ use Rattle.model_site.specs.Untold.{Untold, passed}
 use Rattle.model_site_law.proofs.PerformLemmas.{all_performed_grows}
 use Rattle.ve_tx.specs.declared.entry.Entry.{Entry}
 use Rattle.ve_tx.specs.declared.parcel.Parcel.{Parcel}
-use Rattle.ve_tx.specs.ByValue.{parcel_by_value, ParcelCites}
+use Rattle.ve_tx.specs.ByValue.{parcel_by_value}
 use Rattle.ve_tx.specs.Making.{Extends}
 use Rattle.ve_tx.proofs.ValuesLemmas.{extends_itself}
 use Rattle.ve_editor.specs.Edited.{AllStand, entry_by_value, EntryCites}

@@ -1,15 +1,14 @@
 -- An entry of another site taken in place, where no pending one is dropped for it, and a feed that
 -- is taken so, or on a copy.
-use Rattle.std.proofs.Common.{◌≡◌, ◌≤◌, ◌+◌, ◌==◌, false, true, ℕ, zero, suc, List, [], ◌∷◌, ◌++◌, length, map, drop, get_or, Option, Some, None, refl, sym, ap, ◌∙◌, subst, arith}
-use Rattle.std.proofs.lemmas.List.{append-nil, drop_all}
-use Rattle.ve_base.specs.declared.value.Value.{Value}
+use Rattle.std.proofs.Common.{◌≡◌, ◌≤◌, ◌+◌, ◌==◌, false, true, ℕ, zero, suc, List, [], ◌∷◌, ◌++◌, length, map, drop, get_or, Option, Some, None, sym, ap, ◌∙◌, subst, arith}
+use Rattle.std.proofs.lemmas.List.{drop_all}
 use Rattle.model_change.specs.Replay.{AllRun, flattened}
 use Rattle.model_change.specs.Transaction.{Transaction}
 use Rattle.model_site.specs.Entries.{Entry as ModelEntry}
 use Rattle.model_site.specs.Entries.{Parcel as ModelParcel, all_reverted}
 use Rattle.model_site.specs.Replica.{Replica, all_performed}
 use Rattle.model_site.specs.Site.{Site}
-use Rattle.model_site.specs.Take.{take_entry, take_foreign}
+use Rattle.model_site.specs.Take.{take_foreign}
 use Rattle.model_site.specs.Untold.{Untold, passed}
 use Rattle.ve_tx.specs.declared.entry.Entry.{Entry}
 use Rattle.ve_tx.specs.declared.parcel.Parcel.{Parcel}
@@ -69,9 +68,6 @@ just_one (suc n) le some = omega (arith, le)
 module _ (parcels : List Parcel) (one : Parcel) (n : length parcels ≡ 1) (is : one ≡ get_or parcels 0 one) where
   alone : map parcel_by_value parcels ≡ parcel_by_value one ∷ []
   alone = ap (map parcel_by_value) (only_one parcels one n is)
-
-  pub one_runs : (s : Site) → AllRun (flattened (map parcel_by_value parcels)) (ground_of s) → AllRun (parcel_by_value one) (ground_of s)
-  one_runs s run = subst (λ us. AllRun us (ground_of s)) (ap flattened alone ∙ append-nil (parcel_by_value one)) run
 
   pub one_taken : (old new : Numbered) (taken : Option ℕ) → IsTakenInPlace (parcel_by_value one) old taken new → AreTakenInPlace (map parcel_by_value parcels) old taken new
   one_taken old new (Some left) h = (h.0 ∙ ap (λ ps. with_site (take_foreign ps old.site) old) (sym alone), h.1)

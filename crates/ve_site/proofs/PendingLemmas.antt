@@ -1,6 +1,6 @@
 -- The pending entries of a site, whatever values they cite: how long their lists are, that they may
 -- be joined, and how they are written once entries of other sites were taken.
-use Rattle.std.proofs.Common.{◌≡◌, ◌≤◌, ◌+◌, ℕ, suc, List, [], ◌∷◌, ◌++◌, length, map, flat_map, take, drop, All, Option, refl, sym, ap, ◌∙◌, subst, arith}
+use Rattle.std.proofs.Common.{◌≡◌, ◌≤◌, ◌+◌, ℕ, List, [], ◌∷◌, ◌++◌, length, map, flat_map, take, drop, All, Option, refl, sym, ap, ◌∙◌, subst, arith}
 use Rattle.std.proofs.lemmas.List.{map-append, length-append, length-map, take-append-drop, take-map, drop-map, take_all}
 use Rattle.std.proofs.lemmas.List.Elements.{All-nil, All-cons, All-head, All-tail}
 use Rattle.ve_base.specs.declared.value.Value.{Value}
@@ -15,7 +15,6 @@ use Rattle.model_site.specs.Site.{Site, pending}
 use Rattle.model_site.specs.Take.{parcel_entries}
 use Rattle.model_site.specs.Untold.{Untold}
 use Rattle.ve_tx.specs.declared.entry.Entry.{Entry}
-use Rattle.ve_tx.specs.declared.parcel.Parcel.{Parcel}
 use Rattle.ve_tx.specs.ByValue.{parcel_by_value, ParcelCites}
 use Rattle.ve_tx.specs.Cites.{TxCites}
 use Rattle.ve_tx.specs.Making.{Extends}

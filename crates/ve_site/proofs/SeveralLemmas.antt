@@ -1,6 +1,6 @@
 -- An entry of another site for which a pending one is dropped makes two transactions at least: one
 -- that takes back, and one of its own.
-use Rattle.std.proofs.Common.{◌≡◌, ◌≤◌, ◌<◌, ◌+◌, ℕ, suc, List, [], ◌∷◌, ◌++◌, length, take, drop, Result, Ok, Err, refl, sym, ap, ◌∙◌, subst, arith}
+use Rattle.std.proofs.Common.{◌≡◌, ◌≤◌, ◌<◌, ◌+◌, List, [], ◌∷◌, length, take, drop, Result, Ok, Err, refl, sym, ap, ◌∙◌, arith}
 use Rattle.std.proofs.lemmas.List.{append-nil, length-append, length-map}
 use Rattle.model_items.specs.declared.plain_item.PlainItem.{PlainItem}
 use Rattle.model_change.specs.Inverse.{inverse}
@@ -14,8 +14,8 @@ use Rattle.model_site.specs.Site.{Site, pending}
 use Rattle.model_site_law.proofs.ReplayLemmas.{parcels-drop}
 use Rattle.model_site_law.proofs.UntilConflictLemmas.{joined_until_conflict}
 use Rattle.ve_tree.specs.TreeOf.{most_steps}
-use Rattle.ve_editor.specs.Counted.{steps_after, steps_of_copy, steps_over}
-use Rattle.ve_site.specs.Taking.{steps_of_feed, taking_all, taking_one}
+use Rattle.ve_editor.specs.Counted.{steps_after, steps_of_copy}
+use Rattle.ve_site.specs.Taking.{taking_one}
 use Rattle.ve_site.specs.Underway.{MakesCopy}
 
 -- over no transaction nothing is in conflict
@@ -49,8 +49,8 @@ both_have_some committed (e ∷ es) fewer =
     by_first (Err clash) is later fewer = (
       some_are committed (λ none. no_conflict ([], e) clash (sym (over_none e) ∙ (ap (λ c. join_list c e) (sym none) ∙ is))),
       let some = some_are e (λ none. no_conflict (committed, []) clash (ap (join_list committed) (sym none) ∙ is)) in
-      let all = length-append e (flattened es) in
-      omega (arith, some, all),
+          let all = length-append e (flattened es) in
+          omega (arith, some, all),
     )
     by_first (Ok joined) is later fewer = let both = later joined.0 (omega (arith, fewer)) in (both.committed_has, both.dropped_has)
 

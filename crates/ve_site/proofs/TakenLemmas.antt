@@ -118,6 +118,3 @@ may_take_next foreign others s h run =
 pub taken_anyway : (entries : List Parcel) (s : Site) → take_foreign entries (record s { undone = [] }) ≡ take_foreign entries s
 taken_anyway [] s = refl
 taken_anyway (entry ∷ entries) s = refl
-
-pub none_taken : (s : Site) → s.undone ≡ [] → take_foreign [] s ≡ s
-none_taken s none = ap (λ us. record s { undone = us }) (sym none)

@@ -1,6 +1,5 @@
 -- A copy of a site while it takes entries of other sites. For private functions.
 use Rattle.std.specs.Prelude.{◌≡◌, ◌≤◌, ℕ, ◌+◌, List, length, map, take, Option, Some, None}
-use Rattle.model_change.specs.Transaction.{Transaction}
 use Rattle.model_site.specs.Entries.{Parcel as ModelParcel}
 use Rattle.model_site.specs.Site.{Site, pending}
 use Rattle.model_site.specs.Take.{take_entry, take_foreign}

@@ -117,11 +117,7 @@ impl Taking {
 
     /// Takes an entry. From the first pending one on that is in conflict with it, the pending ones
     /// are taken back before, the last one first, and dropped.
-    fn take_next<L: Ledger>(
-        &mut self,
-        foreign: &Parcel,
-        steps: &mut Steps<L>,
-    ) -> Result<(), Memory>
+    fn take_next<L: Ledger>(&mut self, foreign: &Parcel, steps: &mut Steps<L>) -> Result<(), Memory>
         requires is { IsTaking self.old }
         requires cites { ParcelCites foreign.now }
         requires run { AllRun (parcel_by_value foreign.now) (ground_of (taking_site self.old)) }

@@ -1,4 +1,4 @@
-use Rattle.std.proofs.Common.{◌≡◌, refl, ap, ◌∙◌}
+use Rattle.std.proofs.Common.{refl, ap, ◌∙◌}
 use Rattle.ve_site.specs.Dropped.{only_done}
 use Rattle.ve_site.specs.Numbered.{Numbered, with_site}
 use Rattle.ve_site.specs.Underway.{taking_site}

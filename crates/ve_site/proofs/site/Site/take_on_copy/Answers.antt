@@ -1,11 +1,8 @@
-use Rattle.std.proofs.Common.{◌≡◌, ◌≤◌, ◌+◌, length, map, sym, ap, ◌∙◌, subst, arith}
-use Rattle.model_site.specs.Site.{Site, pending}
-use Rattle.model_site.specs.Take.{take_foreign}
+use Rattle.std.proofs.Common.{length, map, sym, ap, ◌∙◌}
+use Rattle.model_site.specs.Site.{pending}
 use Rattle.ve_tx.specs.ByValue.{parcel_by_value}
-use Rattle.ve_site.specs.Dropped.{only_done}
 use Rattle.ve_site.specs.Numbered.{Numbered, with_site}
 use Rattle.ve_site.proofs.InPlaceLemmas.{copy_counts, copy_runs, copy_takes}
-use Rattle.ve_site.proofs.PendingLemmas.{pending_count}
 use Rattle.ve_site.proofs.site.Site.take_on_copy.Goals as goal
 
 pub take_all-requires-clause-is : goal.take_all-requires-clause-is

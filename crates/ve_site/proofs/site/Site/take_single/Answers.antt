@@ -1,4 +1,4 @@
-use Rattle.std.proofs.Common.{◌≡◌, ◌≤◌, ◌<◌, ◌+◌, ◌++◌, length, map, refl, sym, ap, ◌∙◌, subst, List, arith}
+use Rattle.std.proofs.Common.{◌≡◌, ◌≤◌, ◌+◌, ◌++◌, length, map, refl, sym, ap, ◌∙◌, subst, List, arith}
 use Rattle.std.proofs.lemmas.List.{length-map}
 use Rattle.model_change.specs.Replay.{AllRun}
 use Rattle.model_site.specs.Entries.{Entry as ModelEntry}

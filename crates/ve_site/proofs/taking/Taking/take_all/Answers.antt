@@ -1,7 +1,6 @@
-use Rattle.std.proofs.Common.{◌≤◌, ◌<◌, ◌+◌, ◌-◌, List, length, take, drop, All, sym, ap, ◌∙◌, subst, arith}
-use Rattle.std.proofs.lemmas.List.{length-drop}
+use Rattle.std.proofs.Common.{◌-◌, List, length, take, drop, arith}
 use Rattle.ve_tx.specs.declared.parcel.Parcel.{Parcel}
-use Rattle.ve_site.proofs.FeedLemmas.{all_taken, all_within, begun, failed_within, one_run_further, rest_of, rest_run_on}
+use Rattle.ve_site.proofs.FeedLemmas.{all_taken, all_within, begun, one_run_further, rest_of, rest_run_on}
 use Rattle.ve_site.proofs.taking.Taking.take_all.Goals as goal
 
 pub loop-at-init : goal.loop-at-init

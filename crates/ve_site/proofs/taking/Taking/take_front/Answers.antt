@@ -1,4 +1,4 @@
-use Rattle.std.proofs.Common.{◌≡◌, ◌≤◌, ◌+◌, ◌<◌, ◌++◌, List, length, map, take, drop, All, refl, sym, ap, ◌∙◌, subst, arith}
+use Rattle.std.proofs.Common.{◌≡◌, ◌≤◌, ◌+◌, ◌<◌, ◌++◌, length, map, take, drop, All, refl, sym, ap, ◌∙◌, subst, arith}
 use Rattle.model_change.specs.Replay.{AllRun, flattened}
 use Rattle.model_site.specs.Replica.{all_performed}
 use Rattle.model_site.specs.Take.{take_foreign}
@@ -9,7 +9,6 @@ use Rattle.ve_rebase.specs.Entries.{parcels_by_value}
 use Rattle.ve_rebase.specs.Lists.{RunFromOneLength}
 use Rattle.ve_rebase.specs.Under.{AreAllUnder, all_over}
 use Rattle.ve_tx.specs.ByValue.{parcel_by_value, ParcelCites}
-use Rattle.ve_tx.specs.declared.parcel.Parcel.{Parcel}
 use Rattle.ve_site.specs.Dropped.{numbered_alike, only_done}
 use Rattle.ve_site.specs.Ground.{ground_of}
 use Rattle.ve_site.specs.Taking.{taking_all}

@@ -1,4 +1,4 @@
-use Rattle.std.proofs.Common.{◌≡◌, ◌≤◌, ◌+◌, ◌++◌, length, map, drop, refl, sym, ap, ◌∙◌, subst, List}
+use Rattle.std.proofs.Common.{◌++◌, length, map, drop, refl, sym, ap, ◌∙◌, subst, List}
 use Rattle.model_site.specs.Untold.{passed}
 use Rattle.ve_rebase.specs.Entries.{parcels_by_value}
 use Rattle.ve_rebase.specs.Lists.{RunFromOneLength}

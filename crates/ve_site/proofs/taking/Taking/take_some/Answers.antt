@@ -1,4 +1,4 @@
-use Rattle.std.proofs.Common.{◌≡◌, ◌≤◌, ◌<◌, ◌+◌, length, map, take, sym, ap, ◌∙◌, subst, arith}
+use Rattle.std.proofs.Common.{◌<◌, ◌+◌, length, arith}
 use Rattle.ve_site.specs.Underway.{taking_site}
 use Rattle.ve_site.proofs.FeedLemmas.{first_within, next_run, some_taken, some_within}
 use Rattle.ve_site.proofs.taking.Taking.take_some.Goals as goal
