@@ -1,5 +1,5 @@
 -- A session as it begins.
-use Rattle.std.proofs.Common.{◌≡◌, ◌<◌, ◌≤◌, ◌+◌, ◌*◌, ℕ, suc, List, [], ◌∷◌, ◌++◌, All, length, replicate, refl, sym, ap, ◌∙◌, subst, arith}
+use Rattle.std.proofs.Common.{◌≡◌, ◌<◌, ◌≤◌, ◌+◌, ◌*◌, ℕ, suc, List, [], ◌∷◌, ◌++◌, All, replicate, sym, ap, ◌∙◌, subst, arith}
 use Rattle.std.proofs.Math.Nat.{mul-le-mul_right, suc-mul}
 use Rattle.std.proofs.lemmas.List.{length-replicate}
 use Rattle.ve_base.specs.declared.value.Value.{Value}
@@ -7,7 +7,7 @@ use Rattle.model_items.specs.declared.item.Item.{Item}
 use Rattle.model_items.specs.Plain.{plain_list, CitesWell}
 use Rattle.model_edit.specs.Translate.{between}
 use Rattle.model_site.specs.Replica.{Replica, opened_with}
-use Rattle.model_site.specs.Session.{Session, started}
+use Rattle.model_site.specs.Session.{started}
 use Rattle.model_site.specs.Site.{Site, starting}
 use Rattle.model_site_law.specs.Protocol.{SessionHolds}
 use Rattle.model_site_law.specs.Sound.{Sound}
@@ -16,7 +16,6 @@ use Rattle.ve_editor.specs.Page.{page_of}
 use Rattle.ve_server.specs.Serving.{Serving}
 use Rattle.ve_sites.specs.IsShared.{IsShared}
 use Rattle.ve_sites.specs.Senders.{Sender, first_senders, session_of, shared_of}
-use Rattle.ve_sites.specs.Shared.{Shared}
 use Rattle.ve_sites.proofs.MemberLemmas.{begun_count, begun_members, begun_next, begun_numbered}
 
 module _ (values : List Value) (first : List Item) (count : ℕ) (filled : values ≡ (opened_with (plain_list values first)).store) where

@@ -1,7 +1,7 @@
 -- A submission behind those that wait.
 use Rattle.std.proofs.Common.{◌≡◌, ℕ, Bool, true, List, [], ◌∷◌, ◌++◌, length, map, Ok, if◌then◌else◌, sym, ap, ◌∙◌}
 use Rattle.std.proofs.lemmas.List.{map-append}
-use Rattle.model_site.specs.Site.{Site, send}
+use Rattle.model_site.specs.Site.{send}
 use Rattle.ve_server.specs.Fed.{submission_of}
 use Rattle.ve_server.specs.declared.feed.Submit.{Submit}
 use Rattle.ve_site.specs.Numbered.{Numbered}

@@ -1,6 +1,5 @@
 -- Two sites over a list of letters.
-use Rattle.std.proofs.Common.{◌≡◌, ℕ, List, [], ◌∷◌, map, None, Some, Ok, codes, refl}
-use Rattle.ve_base.specs.declared.value.Value.{Value}
+use Rattle.std.proofs.Common.{◌≡◌, ℕ, List, [], ◌∷◌, map, None, Some, codes, refl}
 use Rattle.ve_base.specs.declared.value.Value.TheVariants.{White}
 use Rattle.model_items.specs.declared.item.Item.{Item}
 use Rattle.model_items.specs.declared.item.Item.TheVariants as item
@@ -9,8 +8,8 @@ use Rattle.model_items.specs.declared.plain_item.PlainItem.TheVariants.{Char}
 use Rattle.model_change.specs.Transaction.{Retain, Replace, Transaction}
 use Rattle.model_edit.specs.Translate.{between}
 use Rattle.model_site.specs.Replica.{Replica}
-use Rattle.model_site.specs.Session.{Ack, Foreign, Member, SiteFeed, joining}
-use Rattle.model_site.specs.Site.{Site, Submission, send, starting}
+use Rattle.model_site.specs.Session.{Ack, Foreign, joining}
+use Rattle.model_site.specs.Site.{Site, Submission, starting}
 use Rattle.ve_server.specs.Serving.{Serving}
 use Rattle.ve_sites.specs.IsShared.{AreNumbered}
 use Rattle.ve_sites.specs.Senders.{HasGone, Sender, at_site, first_senders, members_of, session_of, shared_of}

@@ -13,7 +13,7 @@ use Rattle.model_site.specs.declared.served.Served.{Served}
 use Rattle.model_site.specs.declared.taken.Taken.{Taken}
 use Rattle.model_site.specs.Entries.{Parcel, parcels}
 use Rattle.model_site.specs.Events.{Serve, Take, after_turn, at_member}
-use Rattle.model_site.specs.Session.{Ack, Foreign, Member, Session, SiteFeed, accepted_of, all_fed, put_member, serve_first, serve_next, serve_one, site_after, take_first, take_next, taken_as, with_member}
+use Rattle.model_site.specs.Session.{Ack, Foreign, Member, Session, SiteFeed, accepted_of, all_fed, serve_first, serve_next, serve_one, site_after, take_first, take_next, taken_as, with_member}
 use Rattle.model_site.specs.Site.{Site, Submission, pending}
 use Rattle.model_site_law.specs.Holds.{Holds, ground}
 use Rattle.model_site_law.specs.Protocol.{Answered, AtRest, MemberHolds, SessionHolds, Submitted, Turn, Waits}
@@ -27,7 +27,7 @@ use Rattle.ve_server.specs.Serving.{Serving, answer_to, first_of, first_feed, af
 use Rattle.ve_site.specs.Ground.{ground_of}
 use Rattle.ve_site.specs.Taking.{MayTake}
 use Rattle.ve_sites.specs.IsShared.{IsShared}
-use Rattle.ve_sites.specs.Senders.{Sender, at_site, member_of, members_of, session_of, shared_of}
+use Rattle.ve_sites.specs.Senders.{Sender, at_site, member_of, session_of, shared_of}
 use Rattle.ve_sites.specs.Shared.{Shared, member_at}
 use Rattle.ve_sites.proofs.MemberLemmas.{members_fed, members_put, members_turn, numbered_at, numbered_put, queued_count}
 use Rattle.ve_sites.proofs.StayLemmas.{found, here, member_is}

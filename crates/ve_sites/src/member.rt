@@ -1,5 +1,5 @@
 // A site of a session.
-ghost use Rattle.std.specs.Prelude.{◌≡◌, ◌≤◌, ◌+◌, ◌++◌, ◌∷◌, [], List, Ok, drop, length, option_copied, option_map, slice_get, IfSome, IfOk, IfErr, OnOk, OnErr};
+ghost use Rattle.std.specs.Prelude.{◌≡◌, ◌≢◌, ◌≤◌, ◌+◌, ◌++◌, ◌∷◌, [], List, Ok, drop, length, option_copied, option_map, slice_get, IfSome, IfOk, IfErr, OnOk, OnErr};
 ghost use Rattle.model_change.specs.Replay.{AllRun};
 ghost use Rattle.model_change.specs.Transaction.{InsertedApart};
 ghost use Rattle.model_site.specs.Refused.{edit_cause};

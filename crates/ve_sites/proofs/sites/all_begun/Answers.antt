@@ -1,4 +1,4 @@
-use Rattle.std.proofs.Common.{◌≡◌, ◌≤◌, ◌+◌, ◌*◌, arith, refl, sym, ap, ◌∙◌}
+use Rattle.std.proofs.Common.{◌≡◌, arith, ap, ◌∙◌}
 use Rattle.model_edit.specs.Translate.{between}
 use Rattle.model_items.specs.Plain.{plain_list}
 use Rattle.model_site.specs.Site.{starting}

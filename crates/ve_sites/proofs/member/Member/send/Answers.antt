@@ -1,4 +1,4 @@
-use Rattle.std.proofs.Common.{◌≡◌, ◌++◌, ◌∷◌, [], is_ok, if◌then◌else◌, sym, ap, ◌∙◌}
+use Rattle.std.proofs.Common.{◌++◌, ◌∷◌, [], is_ok, if◌then◌else◌, sym, ap, ◌∙◌}
 use Rattle.ve_sites.proofs.SentLemmas.{gone}
 use Rattle.ve_sites.proofs.member.Member.send.Goals as goal
 

@@ -7,7 +7,6 @@ use Rattle.ve_editor.specs.Counted.{steps_after}
 use Rattle.ve_editor.specs.Edited.{IsDraftOf, drafted, drafted_values}
 use Rattle.ve_editor.specs.Refusal.{IsEditRefusal}
 use Rattle.ve_tx.proofs.ChangeLemmas.{normal-reduced}
-use Rattle.ve_sites.specs.Senders.{at_site}
 use Rattle.ve_sites.proofs.PlacedLemmas.{Placed, asked, edited_stays, either, kept_stays, on_ok, room, told, told_both, with_its_site}
 use Rattle.ve_sites.proofs.sites.Sites.edit.Goals as goal
 

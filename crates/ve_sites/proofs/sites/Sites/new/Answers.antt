@@ -1,11 +1,7 @@
 use Rattle.std.proofs.Common.{sym, ap, ◌∙◌, subst}
-use Rattle.model_edit.specs.Translate.{between}
-use Rattle.model_site.specs.Site.{starting}
-use Rattle.ve_editor.specs.Page.{page_of}
-use Rattle.ve_server.specs.Serving.{Serving}
 use Rattle.ve_sites.specs.IsShared.{IsShared}
 use Rattle.ve_sites.specs.Senders.{shared_of}
-use Rattle.ve_sites.proofs.BeginLemmas.{all, begins, served_yet, stands}
+use Rattle.ve_sites.proofs.BeginLemmas.{begins, served_yet, stands}
 use Rattle.ve_sites.proofs.sites.Sites.new.Goals as goal
 
 pub invariant_of-result : goal.invariant_of-result

@@ -1,5 +1,5 @@
 use Rattle.std.specs.Prelude.{vec_len}
-use Rattle.std.proofs.Common.{rules, arith, length, ◌≡◌, ◌<◌, ◌≤◌, ◌+◌, List, Ok, IfErr, drop, map, sym, ap, ◌∙◌, subst}
+use Rattle.std.proofs.Common.{rules, arith, length, ◌≡◌, ◌<◌, ◌≤◌, ◌+◌, List, Ok, drop, map, sym, ap, ◌∙◌, subst}
 use Rattle.std.proofs.lemmas.List.{length-map}
 use Rattle.std.proofs.lemmas.Result.{err_from_is_err_and}
 use Rattle.model_change.specs.Replay.{revoke}
@@ -10,9 +10,9 @@ use Rattle.ve_editor.specs.Counted.{steps_over}
 use Rattle.ve_peer_undo.specs.Refusal.{IsRevokeRefusal}
 use Rattle.ve_tx.specs.ByValue.{parcel_by_value}
 use Rattle.ve_sites.specs.Senders.{Sender, at_site}
-use Rattle.ve_sites.specs.Shared.{Shared, site_at}
+use Rattle.ve_sites.specs.Shared.{Shared}
 use Rattle.ve_sites.specs.Turns.{revoking}
-use Rattle.ve_sites.proofs.PlacedLemmas.{Placed, asked, one_place, revoked_stays, room, told, told_both, with_its_site, with_sender}
+use Rattle.ve_sites.proofs.PlacedLemmas.{Placed, asked, one_place, revoked_stays, room, told, told_both, with_its_site}
 use Rattle.ve_sites.proofs.RevokeLemmas.{back_is, back_runs, later_may, later_revoked, revoke_gives, seen_within, some_later}
 use Rattle.ve_sites.proofs.sites.Sites.revoke.Goals as goal
 

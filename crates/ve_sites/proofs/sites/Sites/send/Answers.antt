@@ -1,5 +1,5 @@
 use Rattle.std.specs.Prelude.{vec_len}
-use Rattle.std.proofs.Common.{rules, arith, length, ◌≡◌, Ok, IfOk, IfErr}
+use Rattle.std.proofs.Common.{rules, arith, length, ◌≡◌, IfErr}
 use Rattle.model_site.specs.Site.{Site, send}
 use Rattle.ve_site.specs.Refusal.{IsSendRefusal}
 use Rattle.ve_sites.specs.Senders.{HasGone}
