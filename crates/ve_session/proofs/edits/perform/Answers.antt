@@ -12,6 +12,6 @@ returns-in-Ok-clause-steps g c = λ _.
     let t = drafted s.replica.store c.args.draft.now in
     cost_of_performed s.replica t c.args.steps.now c.edit.new.steps (edit_was t s (site_at c.edit.new.self c.args.k) c.in-Ok.ensures.site).0 c.edit.ensures.steps
 
-pub returns-clause-steps : goal.returns-clause-steps
-returns-clause-steps g c = λ h.
+pub returns-in-Err-clause-steps : goal.returns-in-Err-clause-steps
+returns-in-Err-clause-steps g c = λ h.
     let unstepped = c.in-Err.ensures.unstepped (λ e. h (c.from.ensures ∙ ap edit_stop e)) in omega (arith, unstepped)

@@ -9,8 +9,8 @@ returns-in-Ok-clause-steps g c =
     let counted = c.redo.ensures.steps in
     let within = redo_within old.session.committed (member_at old c.args.k) in omega (arith, counted, within)
 
-pub returns-clause-steps : goal.returns-clause-steps
-returns-clause-steps g c =
+pub returns-in-Err-clause-steps : goal.returns-in-Err-clause-steps
+returns-in-Err-clause-steps g c =
     let old = c.args.session.now in
     let counted = c.redo.ensures.steps in
     let within = redo_within old.session.committed (member_at old c.args.k) in omega (arith, counted, within)
