@@ -19,7 +19,6 @@ use Rattle.model_world_law.specs.Cost as cost
 use Rattle.model_world_law.specs.Cost.{cost_of_made, cost_of_opening, cost_of_request, cost_of_transactions, cost_of_tree, made_in_turn, made_of}
 use Rattle.ve_editor.specs.Counted.{steps_after, steps_over}
 use Rattle.ve_site.specs.Counted as counted
-use Rattle.ve_site.specs.Taking as taken
 use Rattle.ve_sites.specs.Turns as turns
 use Rattle.ve_sites.specs.Turns.{back_of}
 use Rattle.ve_tree.specs.TreeOf.{most_steps}

@@ -1,5 +1,5 @@
 -- A run of a new world, taken over to the plain machine of the definitions.
-use Rattle.std.proofs.Common.{◌≡◌, ◌≤◌, ◌+◌, ℕ, List, [], ◌∷◌, ◌++◌, Option, Some, None, map, refl, ap, subst, ◌∙◌, sym}
+use Rattle.std.proofs.Common.{◌≡◌, ◌≤◌, ◌+◌, ℕ, List, [], ◌∷◌, Option, Some, None, map, refl, ap, subst, ◌∙◌}
 use Rattle.std.specs.Option.{IfSome}
 use Rattle.std.specs.Io.KnownBytes.{Appends}
 use Rattle.model_script.specs.Lines.{lines_of, with_newlines}
@@ -15,8 +15,8 @@ use Rattle.ve_run.specs.declared.status.Status.TheVariants.{Done, Usage, ReadFau
 use Rattle.ve_run.specs.Asked.{asked_for}
 use Rattle.ve_run.specs.Ended.{moment, Moment, Ended, EndedAs, LinesEnded, SoakEnded, WroteText}
 use Rattle.ve_run.specs.Run.{Scene, scene, reply_line, Answers, Answered, Stepped, BrokeOff, GaveUp, Ran, Stopped, Broke, Starved, WrotePrefix, AppendsPrefix}
-use Rattle.ve_run.specs.Soak.{reply_lines, soak_text, summed_up, TookLines}
-use Rattle.ve_session.specs.Program.{counting_meaning, seen_of, EndedNew, Seen, WrotePrefixNew, with_world}
+use Rattle.ve_run.specs.Soak.{soak_text, summed_up, TookLines}
+use Rattle.ve_session.specs.Program.{counting_meaning, EndedNew, Seen, WrotePrefixNew, with_world}
 use Rattle.ve_session.specs.States.{after, closed_state, meaning, State}
 use Rattle.ve_session.proofs.PlainLemmas.{writes_as_defined}
 

@@ -1,5 +1,5 @@
 -- A run of a new world, in the words of the definitions.
-use Rattle.std.specs.Prelude.{◌≡◌, ℕ, List, Option}
+use Rattle.std.specs.Prelude.{ℕ, List, Option}
 use Rattle.model_script.specs.Output.{Meaning}
 use Rattle.model_world.specs.declared.reply.Reply.{Reply}
 use Rattle.model_world.specs.World.{World, Closed, meaning, output_of}

@@ -1,4 +1,4 @@
-use Rattle.std.proofs.Common.{◌≡◌, ◌<◌, true, nat_lt, ap, arith, ◌∙◌, lt-ltb}
+use Rattle.std.proofs.Common.{◌<◌, ap, arith, ◌∙◌, lt-ltb}
 use Rattle.model_site.specs.Site.{Site}
 use Rattle.ve_session.proofs.CostLemmas.{revoke_within}
 use Rattle.ve_sites.specs.Shared.{member_at, site_at}
