@@ -23,3 +23,4 @@ mod StandingExamples
 pub mod CarriedLemmas
 pub mod ViewLemmas
 pub mod OverMarks
+mod CostExamples

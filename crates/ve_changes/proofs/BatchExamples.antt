@@ -1,5 +1,5 @@
 -- Worked examples on a paragraph: a batch of two texts, one that is refused, and typing.
-use Rattle.std.proofs.Common.{◌≡◌, ◌+◌, false, [], ◌∷◌, None, refl}
+use Rattle.std.proofs.Common.{◌≡◌, false, [], ◌∷◌, None, refl}
 use Rattle.ve_base.specs.declared.head.Head.{Head}
 use Rattle.ve_kinds.specs.declared.kind.Kind.TheVariants.{InternalList, P}
 use Rattle.model_items.specs.declared.item.Item.TheVariants as item
@@ -14,7 +14,6 @@ use Rattle.ve_changes.specs.declared.faults.ChangeStop.TheVariants as one
 use Rattle.ve_changes.specs.declared.batch_stop.BatchStop.TheVariants as stop
 use Rattle.ve_changes.specs.Batches.{IsBatchRefused, stop_at}
 use Rattle.ve_changes.specs.TypedCarets.{first_of, inserted_items}
-use Rattle.ve_changes.specs.Costs.{steps_of_batch, steps_of_change, steps_of_changes}
 
 abbrev head : Head
 head = record { tag = []; attrs = []; raw = []; reference = None; owner = false }
@@ -37,24 +36,6 @@ memory_has_no_place = refl
 -- the second change is refused on what the first one makes
 second_is_refused : IsBatchRefused (batch_on letter (change.Text 1 (120 ∷ []) Left ∷ change.Remove 9 12 ∷ [])) (stop.Refused 1 (refusal.BadRange 9 12))
 second_is_refused = refl
-
--- the letter's text node goes, and the paragraph and the root become shorter
-three_are_touched : steps_of_change letter (change.Remove 1 2) ≡ 40
-three_are_touched = refl
-
-a_refused_change_has_none : steps_of_change letter (change.Remove 9 12) ≡ 0
-a_refused_change_has_none = refl
-
--- a copy, and two transactions that touch three nodes each
-two_changes : steps_of_batch letter (change.Remove 1 2 ∷ change.Text 1 (120 ∷ []) Left ∷ []) ≡ 40 + (40 + 40)
-two_changes = refl
-
--- nothing is counted after what is refused
-refused_first : steps_of_changes letter (change.Remove 9 12 ∷ change.Remove 1 2 ∷ []) ≡ 0
-refused_first = refl
-
-nothing_but_a_copy : steps_of_batch letter [] ≡ 40
-nothing_but_a_copy = refl
 
 -- what operations insert, in their order, and what they pass first
 in_order : inserted_items (op.Retain 3 ∷ op.Replace [] (item.Char 97 None ∷ []) ∷ op.Retain 2 ∷ op.Replace [] (item.Char 98 None ∷ []) ∷ []) ≡ item.Char 97 None ∷ item.Char 98 None ∷ []

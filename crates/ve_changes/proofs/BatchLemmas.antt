@@ -16,6 +16,7 @@ use Rattle.model_site_law.specs.Sound.{AllMayRun, MayRun, Sound}
 use Rattle.model_world.specs.declared.edit_command.EditCommand.{EditCommand}
 use Rattle.model_world.specs.declared.refusal.Refusal.{Refusal}
 use Rattle.model_world.specs.Edits.{BatchRefusal, checked_transaction, batch_from, batch_on, change_of, change_on, unless_faulty}
+use Rattle.model_world_law.specs.Cost.{cost_of_transaction, cost_of_transactions, made_in_turn, made_of}
 use Rattle.model_world_law.specs.Fit.{AllWritten, ChangesFit, IsWritten}
 use Rattle.ve_tx.specs.declared.draft.Draft.{Draft}
 use Rattle.ve_tx.specs.declared.entry.Entry.{Entry as KeptEntry}
@@ -24,7 +25,7 @@ use Rattle.ve_tx.specs.Entry.{entry_with}
 use Rattle.ve_tx.specs.Making.{Extends}
 use Rattle.ve_tx.specs.Operation.{by_value}
 use Rattle.ve_tx.proofs.ValuesLemmas.{extends_by_fill}
-use Rattle.ve_editor.specs.Counted.{steps_of, steps_after}
+use Rattle.ve_editor.specs.Counted.{steps_of}
 use Rattle.ve_editor.specs.Edited.{EntryCites, entry_by_value}
 use Rattle.ve_editor.proofs.OtherLemmas.{all_by_value-extended, all_cites-extended}
 use Rattle.ve_changes.specs.declared.faults.ChangeStop.{ChangeStop}
@@ -32,7 +33,6 @@ use Rattle.ve_changes.specs.declared.faults.ChangeStop.TheVariants as one
 use Rattle.ve_changes.specs.Drafts.{IsDrafted}
 use Rattle.ve_changes.specs.Stops.{IsRefused}
 use Rattle.ve_changes.specs.Batches.{IsBatchRefused, IsMade, IsPerformed, no_entry, stop_at}
-use Rattle.ve_changes.specs.Costs.{steps_of_batch, steps_of_change, steps_of_changes}
 
 -- ---- transactions one after the other
 
@@ -70,11 +70,30 @@ pub may_run : (fit : ChangesFit) (law : EditMayRun) (r : Replica) (c : EditComma
     MayRun t r.items
 may_run fit law r c t written sound e n = let f = fit r.items c t written sound e in law t r f.reduced f.apart n
 
-pub steps_of_one : (r : Replica) (c : EditCommand) (t : Transaction) (old new : ℕ) → change_of r.items c ≡ Ok t → new ≤ old + steps_of t r.items → new ≤ old + steps_of_change r c
-steps_of_one r c t old new e h =
-    subst (λ (m : Result Transaction Refusal). new ≤ old + (elim m as (λ _. ℕ) [ Err refusal ↦ 0 | Ok t ↦ steps_of t r.items ])) (sym e) h
+-- what a change that is performed may take; one that is refused takes nothing
+pub cost_of_one : (r : Replica) (c : EditCommand) (t : Transaction) (old new : ℕ) → change_on r c ≡ Ok t → new ≤ old + steps_of t r.items →
+    new ≤ old + cost_of_transactions (made_of (change_on r c)) r.items
+cost_of_one r c t old new e h =
+    let one : new ≤ old + cost_of_transactions (t ∷ []) r.items = omega (arith, h) in
+    subst (λ (m : Result Transaction Refusal). new ≤ old + cost_of_transactions (made_of m) r.items) (sym e) one
 
 -- ---- changes in turn
+
+-- what they may take
+abbrev pub cost_of_changes : Replica → List EditCommand → ℕ
+cost_of_changes r cs = cost_of_transactions (made_in_turn r cs) r.items
+
+made_next : (r : Replica) (c : EditCommand) (cs : List EditCommand) (t : Transaction) → change_on r c ≡ Ok t → made_in_turn r (c ∷ cs) ≡ t ∷ made_in_turn (performed t r) cs
+made_next r c cs t e = ap (λ (m : Result Transaction Refusal). elim m as (λ _. List Transaction) [ Err refusal ↦ [] | Ok u ↦ u ∷ made_in_turn (performed u r) cs ]) e
+
+-- the first of them is one of all
+first_of_all : (r : Replica) (c : EditCommand) (cs : List EditCommand) → cost_of_transactions (made_of (change_on r c)) r.items ≤ cost_of_changes r (c ∷ cs)
+first_of_all r c cs = by (change_on r c)
+  where
+    by : (m : Result Transaction Refusal) → cost_of_transactions (made_of m) r.items
+        ≤ cost_of_transactions (elim m as (λ _. List Transaction) [ Err refusal ↦ [] | Ok t ↦ t ∷ made_in_turn (performed t r) cs ]) r.items
+    by (Ok t) = omega arith
+    by (Err refusal) = omega arith
 
 -- what is meant after transactions that were performed
 abbrev after : List Transaction → Result (List Transaction) BatchRefusal → Result (List Transaction) BatchRefusal
@@ -184,14 +203,16 @@ module _ (r now new : Replica) (changes rest : List EditCommand) (c : EditComman
     written = s.written.1;
   }
 
-  -- what is left costs what it did, but for this one
-  pub steps_left : (old mid end : ℕ) → mid + steps_of_changes now (c ∷ rest) ≤ old + steps_of_changes r changes → end ≤ mid + steps_of_change now c →
-      end + steps_of_changes new rest ≤ old + steps_of_changes r changes
-  steps_left old mid end h k = let whole = of_next (change_on now c) p.same in omega (arith, h, k, whole, ap (λ x. steps_of_changes x rest) p.page)
-    where
-      of_next : (m : Result Transaction Refusal) → m ≡ Ok p.t → (elim m as (λ _. ℕ) [ Err refusal ↦ 0 | Ok t ↦ steps_of_changes (performed t now) rest ]) ≡ steps_of_changes (performed p.t now) rest
-      of_next (Ok u) e = let same : u ≡ p.t = cc in ap (λ t. steps_of_changes (performed t now) rest) same
-      of_next (Err why) e = cc
+  -- what is left may take what it could, but for this one
+  pub cost_left : (old mid end : ℕ) → mid + cost_of_changes now (c ∷ rest) ≤ old + cost_of_changes r changes →
+      end ≤ mid + cost_of_transactions (made_of (change_on now c)) now.items → end + cost_of_changes new rest ≤ old + cost_of_changes r changes
+  cost_left old mid end h k =
+      let whole : cost_of_changes now (c ∷ rest) ≡ cost_of_transaction p.t now.items + cost_of_changes (performed p.t now) rest =
+      ap (λ ts. cost_of_transactions ts now.items) (made_next now c rest p.t p.same) in
+      let one : cost_of_transactions (made_of (change_on now c)) now.items ≡ cost_of_transaction p.t now.items + 0 =
+      ap (λ (m : Result Transaction Refusal). cost_of_transactions (made_of m) now.items) p.same in
+      let later : cost_of_changes new rest ≡ cost_of_changes (performed p.t now) rest = ap (λ (x : Replica). cost_of_changes x rest) p.page in
+      omega (arith, h, k, whole, one, later)
 
 pub all_made : (r now : Replica) (changes rest : List EditCommand) (i : ℕ) (e : KeptEntry) → SoFar r changes rest i now e → rest ≡ [] → IsMade r (batch_on r changes) now e
 all_made r now changes rest i e s none = record {
@@ -217,8 +238,8 @@ module _ (r now : Replica) (changes : List EditCommand) (c : EditCommand) (i : �
   at_place : SoFar r changes (c ∷ drop (i + 1) changes) i now e
   at_place = subst (λ l. SoFar r changes l i now e) (drop_next changes i c inside is) s
 
-  counted_at : (old mid : ℕ) → mid + steps_of_changes now (drop i changes) ≤ old + steps_of_changes r changes → mid + steps_of_changes now (c ∷ drop (i + 1) changes) ≤ old + steps_of_changes r changes
-  counted_at old mid h = subst (λ l. mid + steps_of_changes now l ≤ old + steps_of_changes r changes) (drop_next changes i c inside is) h
+  within_at : (old mid : ℕ) → mid + cost_of_changes now (drop i changes) ≤ old + cost_of_changes r changes → mid + cost_of_changes now (c ∷ drop (i + 1) changes) ≤ old + cost_of_changes r changes
+  within_at old mid h = subst (λ l. mid + cost_of_changes now l ≤ old + cost_of_changes r changes) (drop_next changes i c inside is) h
 
   pub written_at : IsWritten c
   written_at = at_place.written.0
@@ -229,16 +250,19 @@ module _ (r now : Replica) (changes : List EditCommand) (c : EditCommand) (i : �
       subst (SoFar r changes (drop (i + 1) changes) (i + 1) new) (sym same)
       (subst (λ n. SoFar r changes (drop (i + 1) changes) n new (entry_with e later)) one (next_so_far r now new changes (drop (i + 1) changes) c i e later at_place p))
 
-  pub steps_at : (new : Replica) (later : KeptEntry) (old mid end : ℕ) → IsPerformed now (change_on now c) new later → mid + steps_of_changes now (drop i changes) ≤ old + steps_of_changes r changes →
-      end ≤ mid + steps_of_change now c → end + steps_of_changes new (drop (i + 1) changes) ≤ old + steps_of_changes r changes
-  steps_at new later old mid end p h k = steps_left r now new changes (drop (i + 1) changes) c i e later at_place p old mid end (counted_at old mid h) k
+  pub cost_at : (new : Replica) (later : KeptEntry) (old mid end : ℕ) → IsPerformed now (change_on now c) new later → mid + cost_of_changes now (drop i changes) ≤ old + cost_of_changes r changes →
+      end ≤ mid + cost_of_transactions (made_of (change_on now c)) now.items → end + cost_of_changes new (drop (i + 1) changes) ≤ old + cost_of_changes r changes
+  cost_at new later old mid end p h k = cost_left r now new changes (drop (i + 1) changes) c i e later at_place p old mid end (within_at old mid h) k
 
   pub refused_at : (why : ChangeStop) → IsRefused why (change_on now c) → IsBatchRefused (batch_on r changes) (stop_at i why)
   refused_at why h = one_refused r now changes (drop (i + 1) changes) c i e why at_place h
 
-  -- one that isn't performed may have counted what it would
-  pub steps_stopped_at : (old mid end : ℕ) → mid + steps_of_changes now (drop i changes) ≤ old + steps_of_changes r changes → end ≤ mid + steps_of_change now c → end ≤ old + steps_of_changes r changes
-  steps_stopped_at old mid end h k = let whole = counted_at old mid h in omega (arith, whole, k)
+  -- where it ends with this one
+  pub cost_stopped_at : (old mid end : ℕ) → mid + cost_of_changes now (drop i changes) ≤ old + cost_of_changes r changes →
+      end ≤ mid + cost_of_transactions (made_of (change_on now c)) now.items → end ≤ old + cost_of_changes r changes
+  cost_stopped_at old mid end h k =
+      let whole = within_at old mid h in
+      let first = first_of_all now c (drop (i + 1) changes) in omega (arith, whole, k, first)
 
 -- ---- one change alone, as several
 
@@ -248,6 +272,5 @@ lone_batch r c t e = batch_next 0 c [] r t e
 pub lone_refused : (r : Replica) (c : EditCommand) (why : Refusal) → change_on r c ≡ Err why → batch_on r (c ∷ []) ≡ Err (record { at = 0; refusal = why })
 lone_refused r c why e = batch_ends 0 c [] r why e
 
-pub steps_of_lone : (r : Replica) (c : EditCommand) (t : Transaction) (old new : ℕ) → change_of r.items c ≡ Ok t → new ≤ old + steps_after (t ∷ []) r.items → new ≤ old + steps_of_batch r (c ∷ [])
-steps_of_lone r c t old new e h =
-    let own : new ≤ old + steps_of_change r c = steps_of_one r c t old new e (omega (arith, h)) in omega (arith, own)
+pub cost_of_lone : (r : Replica) (c : EditCommand) (t : Transaction) (old new : ℕ) → change_on r c ≡ Ok t → new ≤ old + steps_of t r.items → new ≤ old + cost_of_changes r (c ∷ [])
+cost_of_lone r c t old new e h = let own = cost_of_one r c t old new e h in let all = first_of_all r c [] in omega (arith, own, all)

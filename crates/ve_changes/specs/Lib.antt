@@ -21,5 +21,4 @@ pub mod Carets
 pub mod Applied
 pub mod HtmlStops
 pub mod Batches
-pub mod Costs
 pub mod TypedCarets

@@ -1,11 +1,11 @@
 // Changes performed one after the other.
-ghost use Rattle.std.specs.Prelude.{◌≡◌, ◌≤◌, ◌+◌, length, IfOk, IfErr, OnOk};
+ghost use Rattle.std.specs.Prelude.{◌≡◌, ◌≢◌, ◌≤◌, ◌+◌, true, length, IfOk, IfErr, OnOk};
 ghost use Rattle.model_site_law.specs.Sound.{Sound};
 ghost use Rattle.model_world.specs.Edits.{batch_on, change_on};
+ghost use Rattle.model_world_law.specs.Cost.{cost_of_made, cost_of_transactions, made_in_turn, made_of};
 ghost use Rattle.model_world_law.specs.Fit.{AllWritten, IsWritten};
 ghost use Rattle.ve_changes.specs.Stops.{IsRefused};
 ghost use Rattle.ve_changes.specs.Batches.{IsBatch, IsBatchRefused, IsMade, IsPerformed, no_entry};
-ghost use Rattle.ve_changes.specs.Costs.{steps_of_batch, steps_of_change, steps_of_changes};
 
 use crate::batch_stop::stop_at;
 use crate::{BatchStop, ChangeStop, change_draft};
@@ -37,7 +37,10 @@ fn perform_one<L: Ledger>(
     ensures ok { IfOk result (IsPerformed editor.old (change_on editor.old change.now) editor.new) }
     ensures refused { IfErr result (λ why. IsRefused why (change_on editor.old change.now)) }
     ensures counted { steps.old ≤ steps.new }
-    ensures steps { steps.new ≤ steps.old + steps_of_change editor.old change.now }
+    ensures steps { IfErr result (λ stop. stop ≢ ChangeStop.Memory)
+        → steps.new
+        ≤ steps.old
+        + cost_of_transactions (made_of (change_on editor.old change.now)) editor.old.items }
 {
     // a change that was read and isn't refused may be performed
     layers_fit();
@@ -65,7 +68,10 @@ fn perform_each<L: Ledger>(
         IsMade editor.old (batch_on editor.old changes.now) editor.new entry.new) }
     ensures refused { IfErr result (IsBatchRefused (batch_on editor.old changes.now)) }
     ensures counted { steps.old ≤ steps.new }
-    ensures steps { steps.new ≤ steps.old + steps_of_changes editor.old changes.now }
+    ensures steps { IfErr result (λ stop. stop ≢ BatchStop.Memory)
+        → steps.new
+        ≤ steps.old
+        + cost_of_transactions (made_in_turn editor.old changes.now) editor.old.items }
 {
     for at in 0..changes.len() {
         match perform_one(alloc, editor, &changes[at], steps) {
@@ -100,7 +106,9 @@ fn perform_on<L: Ledger>(
     ensures ok { IfOk result (IsBatch editor (batch_on editor changes.now)) }
     ensures refused { IfErr result (IsBatchRefused (batch_on editor changes.now)) }
     ensures counted { steps.old ≤ steps.new }
-    ensures steps { steps.new ≤ steps.old + steps_of_changes editor changes.now }
+    ensures steps { IfErr result (λ stop. stop ≢ BatchStop.Memory)
+        → steps.new
+        ≤ steps.old + cost_of_transactions (made_in_turn editor changes.now) editor.items }
 {
     let mut entry = nothing_yet(alloc, &editor);
     match perform_each(alloc, &mut editor, &mut entry, changes, steps) {
@@ -126,7 +134,9 @@ pub fn perform_all<L: Ledger>(
     ensures ok { IfOk result (IsBatch editor.now (batch_on editor.now changes.now)) }
     ensures refused { IfErr result (IsBatchRefused (batch_on editor.now changes.now)) }
     ensures counted { steps.old ≤ steps.new }
-    ensures steps { steps.new ≤ steps.old + steps_of_batch editor.now changes.now }
+    ensures steps { IfErr result (λ stop. stop ≢ BatchStop.Memory)
+        → steps.new
+        ≤ steps.old + cost_of_made true (made_in_turn editor.now changes.now) editor.now.items }
 {
     let copy = editor.copy(steps)?;
     perform_on(alloc, copy, changes, steps)

@@ -4,7 +4,8 @@
 //! Proved: but for want of memory, each change, and each move of a row, a column or a list item, is
 //! the draft that the model says, over the page's store and with just the values that the store
 //! takes. Else it is the model's refusal. Changes made in turn are the model's transactions and one
-//! entry, or the first refusal with its number. Their steps have bounds.
+//! entry, or the first refusal with its number. They take no more steps than the `Cost` of
+//! model_world_law says.
 //!
 //! - `change_draft` gives the draft of a change over a page's store, or the refusal that answers
 //!   it. `move_draft` gives the draft of a row, a column or a list item that is moved. Each calls
@@ -14,7 +15,7 @@
 //!   which range is erased (`Carets`). They read the page alone.
 //! - `perform_all` performs changes on a copy of an editor, each on the result of those before it,
 //!   as one entry: the model's `batch_on`. Where one is refused nothing is changed, and its number
-//!   is told (`Batches`, `Costs`).
+//!   is told (`Batches`).
 //! - `type_text` performs typing, and tells where the caret stands after the text; `after_inserted`
 //!   tells that of one transaction (`TypedCarets`).
 //!

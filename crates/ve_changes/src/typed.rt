@@ -1,11 +1,11 @@
 // A text typed.
-ghost use Rattle.std.specs.Prelude.{◌≡◌, ◌≤◌, ◌+◌, IfOk, IfErr};
+ghost use Rattle.std.specs.Prelude.{◌≡◌, ◌≢◌, ◌≤◌, ◌+◌, true, IfOk, IfErr};
 ghost use Rattle.model_site.specs.Replica.{Replica};
 ghost use Rattle.model_site_law.specs.Sound.{Sound};
 ghost use Rattle.model_world.specs.Answers as model;
 ghost use Rattle.model_world.specs.Edits.{batch_on};
+ghost use Rattle.model_world_law.specs.Cost.{cost_of_made, made_in_turn};
 ghost use Rattle.ve_changes.specs.Batches.{IsBatch, IsBatchRefused, IsTyped};
-ghost use Rattle.ve_changes.specs.Costs.{steps_of_batch};
 
 use crate::BatchStop;
 use crate::batch::{Batch, perform_all};
@@ -73,8 +73,11 @@ pub fn type_text<L: Ledger>(
     ensures refused { IfErr result (
         IsBatchRefused (batch_on editor.now (model.typing editor.now.selection text.now))) }
     ensures counted { steps.old ≤ steps.new }
-    ensures steps { steps.new
-        ≤ steps.old + steps_of_batch editor.now (model.typing editor.now.selection text.now) }
+    ensures steps { IfErr result (λ stop. stop ≢ BatchStop.Memory)
+        → steps.new
+        ≤ steps.old
+        + cost_of_made true (
+        made_in_turn editor.now (model.typing editor.now.selection text.now)) editor.now.items }
 {
     let changes = typing(alloc, editor.selection(), text)?;
     match perform_all(alloc, editor, changes.as_slice(), steps) {

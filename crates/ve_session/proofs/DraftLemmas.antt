@@ -1,6 +1,6 @@
 -- A draft that a request is, performed at a site.
-use Rattle.std.proofs.Common.{◌≡◌, ◌≤◌, ◌+◌, ℕ, true, List, [], ◌∷◌, refl, ap, sym, subst, ◌∙◌}
-use Rattle.std.specs.Prelude.{Result, Ok, Err, IfOk, IfErr}
+use Rattle.std.proofs.Common.{◌≡◌, ◌≤◌, ◌+◌, ℕ, true, List, length, refl, ap, sym, subst, ◌∙◌}
+use Rattle.std.specs.Prelude.{nat_le, Result, Ok, Err, IfOk, IfErr}
 use Rattle.ve_base.specs.declared.value.Value.{Value}
 use Rattle.model_change.specs.Transaction.{Transaction}
 use Rattle.model_edit.specs.declared.selection.Selection.{Selection}
@@ -18,18 +18,18 @@ use Rattle.model_world.specs.declared.refusal.Refusal.{Refusal}
 use Rattle.model_world.specs.Answers.{request_outcome, erased_or_no, higher, lower, performed_or_no, to_erase}
 use Rattle.model_world.specs.Edits.{checked_transaction, change_of}
 use Rattle.model_world.specs.Refusals.{refused_as}
+use Rattle.model_world_law.specs.Cost.{cost_of_made, cost_of_request, erasing}
 use Rattle.model_world_law.specs.Fit.{Fit, MovesFit}
 use Rattle.ve_changes.specs.declared.faults.ChangeStop.{ChangeStop}
 use Rattle.ve_changes.specs.Carets.{range_to_erase}
 use Rattle.ve_changes.specs.Drafts.{IsDrafted}
 use Rattle.ve_changes.specs.Moves.{is_move, moved_by}
 use Rattle.ve_changes.specs.Stops.{IsRefused}
-use Rattle.ve_editor.specs.Counted.{steps_after}
 use Rattle.ve_tx.specs.declared.draft.Draft.{Draft}
 use Rattle.ve_session.specs.Asked.{asker, IsStopped}
-use Rattle.ve_session.specs.Cost.{steps_to_answer, steps_to_erase, steps_to_perform}
+use Rattle.ve_session.proofs.CostLemmas.{cost_in_place}
 use Rattle.ve_session.proofs.TurnLemmas.{unmeant}
-use Rattle.ve_sites.specs.Shared.{Shared, site_at}
+use Rattle.ve_sites.specs.Shared.{Shared, member_at, site_at}
 
 -- what holds of each value that a call may give holds of the one that it gives
 pub ok_as : {A E : Type 0} (P Q : A → Type 0) (r : Result A E) → ((x : A) → P x → Q x) → IfOk r P → IfOk r Q
@@ -45,10 +45,6 @@ pub drafted_at : (meant : List PlainItem → Result Transaction Refusal) (values
     values ≡ store → lent ≡ items → IsDrafted values (meant lent) d → IsDrafted store (meant items) d
 drafted_at meant values store lent items d same as_lent is =
     subst (λ (l : List PlainItem). IsDrafted store (meant l) d) as_lent (subst (λ (v : List Value). IsDrafted v (meant lent) d) same is)
-
-pub steps_of_meant : (items : List PlainItem) (meant : Result Transaction Refusal) (t : Transaction) (old new : ℕ) → meant ≡ Ok t →
-    new ≤ old + steps_after (t ∷ []) items → new ≤ old + steps_to_perform items meant
-steps_of_meant items meant t old new means h = subst (λ m. new ≤ old + steps_to_perform items m) (sym means) h
 
 -- ---- what is moved
 
@@ -85,35 +81,35 @@ move_fits laws items (request.Erase dir by) t is sound e = cc
 move_fits laws items (request.Grid at) t is sound e = cc
 move_fits laws items (request.Revoke entry) t is sound e = cc
 
-pub move_steps : (r : Request) (committed : List Parcel) (m : Member) → is_move r ≡ true →
-    steps_to_answer r committed m ≡ steps_to_perform m.site.replica.items (moved_by m.site.replica.items r)
-move_steps (request.RowIn at row) committed m is = refl
-move_steps (request.RowOut at row) committed m is = refl
-move_steps (request.ColIn at column) committed m is = refl
-move_steps (request.ColOut at column) committed m is = refl
-move_steps (request.Indent at) committed m is = refl
-move_steps (request.Outdent at) committed m is = refl
-move_steps request.Html committed m is = cc
-move_steps request.Tree committed m is = cc
-move_steps request.Refs committed m is = cc
-move_steps request.Caret committed m is = cc
-move_steps request.Undo committed m is = cc
-move_steps request.Redo committed m is = cc
-move_steps request.Send committed m is = cc
-move_steps request.Serve committed m is = cc
-move_steps request.Take committed m is = cc
-move_steps request.Tell committed m is = cc
-move_steps (request.ShowItems from to) committed m is = cc
-move_steps (request.At at) committed m is = cc
-move_steps (request.Near at dir) committed m is = cc
-move_steps (request.Edit change) committed m is = cc
-move_steps (request.Batch cmds) committed m is = cc
-move_steps (request.Select anchor focus) committed m is = cc
-move_steps (request.Move dir by keep) committed m is = cc
-move_steps (request.TypeText text) committed m is = cc
-move_steps (request.Erase dir by) committed m is = cc
-move_steps (request.Grid at) committed m is = cc
-move_steps (request.Revoke entry) committed m is = cc
+pub move_costs : (r : Request) (committed : List Parcel) (m : Member) → is_move r ≡ true →
+    cost_of_request committed m r ≡ cost_in_place (checked_transaction m.site.replica (moved_by m.site.replica.items r)) m.site.replica.items
+move_costs (request.RowIn at row) committed m is = refl
+move_costs (request.RowOut at row) committed m is = refl
+move_costs (request.ColIn at column) committed m is = refl
+move_costs (request.ColOut at column) committed m is = refl
+move_costs (request.Indent at) committed m is = refl
+move_costs (request.Outdent at) committed m is = refl
+move_costs request.Html committed m is = cc
+move_costs request.Tree committed m is = cc
+move_costs request.Refs committed m is = cc
+move_costs request.Caret committed m is = cc
+move_costs request.Undo committed m is = cc
+move_costs request.Redo committed m is = cc
+move_costs request.Send committed m is = cc
+move_costs request.Serve committed m is = cc
+move_costs request.Take committed m is = cc
+move_costs request.Tell committed m is = cc
+move_costs (request.ShowItems from to) committed m is = cc
+move_costs (request.At at) committed m is = cc
+move_costs (request.Near at dir) committed m is = cc
+move_costs (request.Edit change) committed m is = cc
+move_costs (request.Batch cmds) committed m is = cc
+move_costs (request.Select anchor focus) committed m is = cc
+move_costs (request.Move dir by keep) committed m is = cc
+move_costs (request.TypeText text) committed m is = cc
+move_costs (request.Erase dir by) committed m is = cc
+move_costs (request.Grid at) committed m is = cc
+move_costs (request.Revoke entry) committed m is = cc
 
 -- ---- what is erased
 
@@ -135,11 +131,12 @@ module _ (k : ℕ) (old : Shared) (dir : Dir) (by : By) (s : Selection) (e : to_
       ap (erased_or_no (asker page old k)) e
       ∙ ap (λ c. performed_or_no (asker page old k) (checked_transaction (site_at old k).replica (change_of (site_at old k).replica.items c))) same_change
 
-  pub erase_steps : (before after : ℕ) → after ≤ before + steps_to_perform (site_at old k).replica.items (change_of (site_at old k).replica.items (change.Remove from to)) →
-      after ≤ before + steps_to_erase (site_at old k).replica.items (to_erase (site_at old k).replica dir by)
-  erase_steps before after h =
-      subst (λ m. after ≤ before + steps_to_erase (site_at old k).replica.items m) (sym e)
-      (subst (λ c. after ≤ before + steps_to_perform (site_at old k).replica.items (change_of (site_at old k).replica.items c)) (sym same_change) h)
+  pub erase_cost : (before after : ℕ) → after ≤ before + cost_in_place (checked_transaction (site_at old k).replica (change_of (site_at old k).replica.items (change.Remove from to))) (site_at old k).replica.items →
+      after ≤ before + cost_of_request old.session.committed (member_at old k) (request.Erase dir by)
+  erase_cost before after h =
+      let r = (site_at old k).replica in
+      subst (λ m. after ≤ before + cost_of_made (nat_le 2 (length (erasing r m))) (erasing r m) r.items) (sym e)
+      (subst (λ c. after ≤ before + cost_in_place (checked_transaction r (change_of r.items c)) r.items) (sym same_change) h)
 
   pub unerased : (why : ChangeStop) (lent : List PlainItem) → lent ≡ (site_at old k).replica.items → IsRefused why (change_of lent (change.Remove from to)) →
       IsStopped (request.Erase dir by) k old why

@@ -1,3 +1,5 @@
+pub mod CostLemmas
+pub mod FeedCosts
 pub mod TurnLemmas
 pub mod DraftLemmas
 pub mod StopLemmas

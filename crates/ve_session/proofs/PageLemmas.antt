@@ -25,6 +25,7 @@ use Rattle.model_world.specs.Answers.{after_text}
 use Rattle.model_world.specs.Opening.{open_page, session_of}
 use Rattle.model_world.specs.Refusals.{open_refusal, refused_as}
 use Rattle.model_world.specs.World.{World, Open}
+use Rattle.model_world_law.specs.Cost.{cost_of_command, cost_of_opening, cost_of_request}
 use Rattle.model_world_law.specs.Fit.{LinesAreWritten}
 use Rattle.model_world_law.specs.Reached.{EveryItemStands, EverySiteHolds, SiteHolds}
 use Rattle.model_world_law.specs.Standing.{has_few_marks, may_stand}
@@ -41,13 +42,13 @@ use Rattle.ve_json.specs.Answers.{reply_of}
 use Rattle.ve_tree.specs.TreeOf.{most_steps}
 use Rattle.ve_tx.specs.Making.{Extends}
 use Rattle.ve_session.specs.Asked.{reply_and_world, IsAnswered, IsAsked}
-use Rattle.ve_session.specs.Cost.{steps_of, steps_to_answer, steps_to_open}
 use Rattle.ve_session.specs.Opened.{lent_of, page_on, world_on, IsLed, IsOpen, MayOpen, OnPage}
 use Rattle.ve_session.specs.Turning.{CaretStands, MayTurn}
 use Rattle.ve_session.proofs.CaretLemmas.{is_selected, is_typed, moves, site_put_again}
+use Rattle.ve_session.proofs.CostLemmas.{opening_within}
 use Rattle.ve_session.proofs.NumberedLemmas.{origins_below}
 use Rattle.ve_session.proofs.TurnLemmas.{site_put}
-use Rattle.ve_session.proofs.WorldLemmas.{led_after, obeyed_so, steps_are, there}
+use Rattle.ve_session.proofs.WorldLemmas.{costs_are, led_after, obeyed_so, there}
 use Rattle.ve_sites.specs.Shared.{Shared, member_at, site_at, sites, with_site_at}
 
 -- ---- a page that was read
@@ -86,8 +87,8 @@ module _ (text : List ℕ) (read : PageRead) (count : ℕ) (is : IsReadPage (enc
       subst (λ (x : Shared). let p = page_on (lent_of text read.body read.rows x.first refs) x.session in (open_page text ≡ Ok p.page) × (p.session ≡ session_of p.page count)) (sym e)
       (opens ∙ ap (λ p. Ok p) (sym (same_page refs)), ap (λ p. session_of p count) (sym (same_page refs)))
 
-  pub within : (old new : ℕ) → new ≤ old + count * most_steps page.items → new ≤ old + steps_to_open count (open_page text)
-  within old new h = subst (λ r. new ≤ old + steps_to_open count r) (sym opens) h
+  pub within : (old new : ℕ) → new ≤ old + count * most_steps page.items → new ≤ old + cost_of_opening count (open_page text)
+  within old new h = opening_within count (open_page text) page old new opens h
 
 -- ---- a page that is open
 
@@ -222,9 +223,9 @@ module _ (text : List ℕ) (body : Span) (rows : List OriginRow) (refs : List Re
       (reply_and_world (world_on (fields_on text body rows refs old)) (Ask r k)).0 ≡ reply_of answer
   replied new answer by = ap (λ (x : Reply × World). x.0) (obeyed_so (fields_on text body rows refs old).page old k r within new answer by)
 
-  pub cost_within : (before after : ℕ) → after ≤ before + steps_to_answer r old.session.committed (member_at old k) →
-      after ≤ before + steps_of (world_on (fields_on text body rows refs old)) (Ok (Ask r k))
-  cost_within before after h = subst (λ n. after ≤ before + n) (sym (steps_are (fields_on text body rows refs old).page old k r within)) h
+  pub cost_within : (before after : ℕ) → after ≤ before + cost_of_request old.session.committed (member_at old k) r →
+      after ≤ before + cost_of_command (world_on (fields_on text body rows refs old)) (Ok (Ask r k))
+  cost_within before after h = subst (λ n. after ≤ before + n) (sym (costs_are (fields_on text body rows refs old).page old k r within)) h
 
   pub after_open : IsAsked (Ask r k) → (new : Shared) (answer : Answer) → IsAnswered r k old answer new → IsOpen (lent_of text body rows new.first refs) new.session
   after_open asked new answer by =

@@ -4,9 +4,8 @@ use Rattle.model_script.specs.Lines.{lines_of, with_newlines}
 use Rattle.model_script.specs.Output.{replies}
 use Rattle.model_world.specs.Spelled.{reply_text}
 use Rattle.model_world.specs.World.{meaning as plain, reply}
-use Rattle.ve_session.specs.Cost.{meaning}
 use Rattle.ve_session.specs.Laws.{LeadsAsDefined, WritesAsDefined}
-use Rattle.ve_session.specs.States.{State, after}
+use Rattle.ve_session.specs.States.{after, meaning, State}
 
 replies_are : (s : State) (lines : List (List ℕ)) → replies meaning s lines ≡ replies plain s.world lines
 replies_are s [] = refl

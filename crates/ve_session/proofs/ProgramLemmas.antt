@@ -1,11 +1,12 @@
 -- A run of a new world, taken over to the plain machine of the definitions.
-use Rattle.std.proofs.Common.{◌≡◌, ◌≤◌, ◌+◌, ℕ, List, [], ◌∷◌, ◌++◌, Option, Some, None, map, refl, ap, subst, ◌∙◌, sym}
+use Rattle.std.proofs.Common.{◌≡◌, ◌≤◌, ◌+◌, ℕ, List, [], ◌∷◌, Option, Some, None, map, refl, ap, subst, ◌∙◌}
 use Rattle.std.specs.Option.{IfSome}
 use Rattle.std.specs.Io.KnownBytes.{Appends}
 use Rattle.model_script.specs.Lines.{lines_of, with_newlines}
 use Rattle.model_script.specs.Output.{output, replies, state_after, cost_of, written}
 use Rattle.model_world.specs.Spelled.{reply_text}
 use Rattle.model_world.specs.World.{World, Closed, output_of, reply}
+use Rattle.model_world_law.specs.Cost.{cost}
 use Rattle.ve_gen.specs.Generated.{script_lines}
 use Rattle.ve_words.specs.Words.{Meant, Asks, Refused, HelpWanted}
 use Rattle.ve_words.specs.declared.read.Mode.TheVariants as mode
@@ -14,10 +15,9 @@ use Rattle.ve_run.specs.declared.status.Status.TheVariants.{Done, Usage, ReadFau
 use Rattle.ve_run.specs.Asked.{asked_for}
 use Rattle.ve_run.specs.Ended.{moment, Moment, Ended, EndedAs, LinesEnded, SoakEnded, WroteText}
 use Rattle.ve_run.specs.Run.{Scene, scene, reply_line, Answers, Answered, Stepped, BrokeOff, GaveUp, Ran, Stopped, Broke, Starved, WrotePrefix, AppendsPrefix}
-use Rattle.ve_run.specs.Soak.{reply_lines, soak_text, summed_up, TookLines}
-use Rattle.ve_session.specs.Cost.{meaning, steps_of_line}
-use Rattle.ve_session.specs.Program.{counting_meaning, seen_of, EndedNew, Seen, WrotePrefixNew, with_world}
-use Rattle.ve_session.specs.States.{State, after, closed_state}
+use Rattle.ve_run.specs.Soak.{soak_text, summed_up, TookLines}
+use Rattle.ve_session.specs.Program.{counting_meaning, EndedNew, Seen, WrotePrefixNew, with_world}
+use Rattle.ve_session.specs.States.{after, closed_state, meaning, State}
 use Rattle.ve_session.proofs.PlainLemmas.{writes_as_defined}
 
 -- ---- lines
@@ -28,7 +28,7 @@ states_are s (line ∷ lines) = states_are (after s line) lines
 
 costs_are : (s : State) (lines : List (List ℕ)) → cost_of meaning s lines ≡ cost_of counting_meaning s.world lines
 costs_are s [] = refl
-costs_are s (line ∷ lines) = ap (λ n. steps_of_line s.world line + n) (costs_are (after s line) lines)
+costs_are s (line ∷ lines) = ap (λ n. cost s.world line + n) (costs_are (after s line) lines)
 
 replies_are : (s : State) (lines : List (List ℕ)) → replies meaning s lines ≡ replies counting_meaning s.world lines
 replies_are s [] = refl

@@ -1,24 +1,20 @@
--- The outcome of a command, and what it may cost, computed from the definitions.
+-- The outcome of a command, computed from the definitions.
 use Rattle.std.proofs.Common.{◌≡◌, refl, true, false, []}
 use Rattle.std.specs.Prelude.{Ok, Err, None}
 use Rattle.model_site.specs.Replica.{opened_with}
-use Rattle.model_site.specs.Session.{joining, started}
+use Rattle.model_site.specs.Session.{started}
 use Rattle.model_world.specs.declared.command.Request.TheVariants as request
 use Rattle.model_world.specs.declared.command.Command.TheVariants.{Ask}
-use Rattle.model_world.specs.declared.refusal.Refusal.TheVariants.{NotOpen, NothingQueued, NothingToUndo}
+use Rattle.model_world.specs.declared.refusal.Refusal.TheVariants.{NotOpen, NothingQueued}
 use Rattle.model_world.specs.declared.reply.Reply.TheVariants.{Caret, No}
 use Rattle.model_world.specs.World.{Closed}
 use Rattle.ve_session.specs.Asked.{is_shown, kept_or_new, reply_and_world}
-use Rattle.ve_session.specs.Cost.{steps_of, steps_to_answer, steps_to_erase, steps_to_open, steps_to_perform}
 use Rattle.ve_session.specs.Opened.{replica_in}
 use Rattle.ve_session.specs.Turning.{CaretStands}
 
--- without a page `html` is refused, and takes no step; no site has a replica
+-- without a page `html` is refused, and no site has a replica
 closed : reply_and_world Closed (Ask request.Html 0) ≡ (No NotOpen, Closed)
 closed = refl
-
-no_step : steps_of Closed (Ok (Ask request.Html 0)) ≡ 0
-no_step = refl
 
 no_replica : replica_in Closed 0 ≡ None
 no_replica = refl
@@ -36,20 +32,6 @@ refusal_keeps = refl
 
 reply_brings : kept_or_new (started (opened_with []) 1) (Ok (Caret 0 0, started (opened_with []) 2)) ≡ (Caret 0 0, started (opened_with []) 2)
 reply_brings = refl
-
--- where nothing is unsent, undoing builds the tree of a copy at most; a turn without a feed takes
--- no step
-nothing_erased : steps_to_erase [] (Err NothingToUndo) ≡ 0
-nothing_erased = refl
-
-nothing_performed : steps_to_perform [] (Err NothingToUndo) ≡ 0
-nothing_performed = refl
-
-unopened : steps_to_open 2 (Err NotOpen) ≡ 0
-unopened = refl
-
-nothing_taken : steps_to_answer request.Take [] (joining (opened_with [])) ≡ 0
-nothing_taken = refl
 
 -- a request that moves no caret asks nothing of it
 undo_moves_none : CaretStands request.Undo (opened_with [])

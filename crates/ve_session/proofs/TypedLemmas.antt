@@ -1,5 +1,5 @@
 -- A text typed at a caret: one change that is made in place.
-use Rattle.std.proofs.Common.{◌≡◌, ◌≤◌, ◌+◌, ℕ, List, [], ◌∷◌, None, refl, ap, sym, subst, ◌∙◌}
+use Rattle.std.proofs.Common.{◌≡◌, ◌≤◌, ◌+◌, ℕ, true, arith, List, [], ◌∷◌, None, refl, ap, sym, subst, ◌∙◌}
 use Rattle.std.specs.Prelude.{Ok}
 use Rattle.model_change.specs.Transaction.{Transaction}
 use Rattle.model_items.specs.declared.plain_item.PlainItem.{PlainItem}
@@ -13,8 +13,8 @@ use Rattle.model_world.specs.declared.edit_command.TextMarks.TheVariants.{Left}
 use Rattle.model_world.specs.declared.command.Request.TheVariants as request
 use Rattle.model_world.specs.Answers.{lower, typed_or_no, typing}
 use Rattle.model_world.specs.Edits.{batch_on, change_of, change_on}
-use Rattle.ve_changes.specs.Costs.{steps_of_batch}
-use Rattle.ve_changes.proofs.BatchLemmas.{allowed_is, lone_batch, lone_refused, not_allowed, steps_of_lone, undrafted}
+use Rattle.model_world_law.specs.Cost.{cost_of_made, made_in_turn}
+use Rattle.ve_changes.proofs.BatchLemmas.{allowed_is, cost_of_lone, lone_batch, lone_refused, not_allowed, undrafted}
 use Rattle.ve_changes.proofs.TypingLemmas.{typing_caret}
 use Rattle.ve_changes.specs.declared.faults.ChangeStop.{ChangeStop}
 use Rattle.ve_changes.specs.declared.faults.ChangeStop.TheVariants as stop
@@ -55,9 +55,11 @@ module _ (k : ℕ) (old : Shared) (text : List ℕ) (at : ℕ)
       IsStopped (request.TypeText text) k old (edit_stop fault)
   barred_typing t fault means e = stopped (edit_stop fault) (not_allowed r put t (edit_stop fault) means (edit_stops fault (edit_cause t r) t e))
 
-  pub typing_steps : (t : Transaction) (before after : ℕ) → change_of r.items put ≡ Ok t → after ≤ before + steps_after (t ∷ []) r.items →
-      after ≤ before + steps_of_batch r (typing r.selection text)
-  typing_steps t before after means h = subst (λ cs. after ≤ before + steps_of_batch r cs) is_typing (steps_of_lone r put t before after means h)
+  pub typing_cost : (t : Transaction) (before after : ℕ) → change_of r.items put ≡ Ok t → edit_cause t r ≡ None → after ≤ before + steps_after (t ∷ []) r.items →
+      after ≤ before + cost_of_made true (made_in_turn r (typing r.selection text)) r.items
+  typing_cost t before after means fits h =
+      let own = cost_of_lone r put t before after (allowed_is r put t means fits) (omega (arith, h)) in
+      subst (λ cs. after ≤ before + cost_of_made true (made_in_turn r cs) r.items) is_typing (omega (arith, own))
 
 -- a site that was edited has the transaction as its last entry
 pub edited_there : (t : Transaction) (k : ℕ) (old middle : Shared) → edit t (site_at old k) ≡ Ok (site_at middle k) →

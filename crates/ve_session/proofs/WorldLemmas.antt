@@ -17,10 +17,10 @@ use Rattle.model_world.specs.Answers.{Outcome, request_outcome}
 use Rattle.model_world.specs.Commands.{command}
 use Rattle.model_world.specs.Opening.{open_page, session_of}
 use Rattle.model_world.specs.World.{World, Closed, Open, Answer as WorldAnswer, answered_if, asked_of, meaning, on_page, opened_or_no, reply, reply_and_next, world_after}
+use Rattle.model_world_law.specs.Cost.{cost_at, cost_of_command, cost_of_opening, cost_of_request}
 use Rattle.ve_json.specs.declared.answer.Answer.{Answer}
 use Rattle.ve_json.specs.Answers.{reply_of}
 use Rattle.ve_session.specs.Asked.{asker, kept_or_new, reply_and_world, IsAnswered, IsAsked}
-use Rattle.ve_session.specs.Cost.{steps_at, steps_of, steps_to_answer, steps_to_open}
 use Rattle.ve_session.specs.Opened.{IsLed, MayOpen, OnPage, world_on}
 use Rattle.ve_sites.specs.Shared.{Shared, member_at, sites}
 
@@ -89,9 +89,9 @@ opened_is w text sites p opens session =
 pub unopened_is : (w : World) (text : List ℕ) (sites : ℕ) (why : Refusal) → open_page text ≡ Err why → reply_and_world w (OpenPage text sites) ≡ (No why, w)
 unopened_is w text sites why e = ap (λ r. reply_and_next w (opened_or_no sites r)) e
 
-pub opening_steps : (w : World) (text : List ℕ) (sites : ℕ) → steps_of w (Ok (OpenPage text sites)) ≡ steps_to_open sites (open_page text)
-opening_steps Closed text sites = refl
-opening_steps (Open page session) text sites = refl
+pub opening_costs : (w : World) (text : List ℕ) (sites : ℕ) → cost_of_command w (Ok (OpenPage text sites)) ≡ cost_of_opening sites (open_page text)
+opening_costs Closed text sites = refl
+opening_costs (Open page session) text sites = refl
 
 -- ---- a site that is asked
 
@@ -112,8 +112,8 @@ module _ (page : Opened) (old : Shared) (k : ℕ) (r : Request) (within : k < si
   pub obeyed_so : (new : Shared) (answer : Answer) → IsAnswered r k old answer new → reply_and_world (Open page old.session) (Ask r k) ≡ (reply_of answer, Open page new.session)
   obeyed_so new answer is = obeyed_is ∙ ap (λ (x : Reply × Session). (x.0, Open page x.1)) (is.replies page)
 
-  pub steps_are : steps_of (Open page old.session) (Ok (Ask r k)) ≡ steps_to_answer r old.session.committed (member_at old k)
-  steps_are = ap (steps_at r old.session.committed) there
+  pub costs_are : cost_of_command (Open page old.session) (Ok (Ask r k)) ≡ cost_of_request old.session.committed (member_at old k) r
+  costs_are = ap (cost_at old.session.committed r) there
 
 -- there is no such site
 pub bad_site : (p : OnPage) (k : ℕ) (r : Request) → length p.session.members ≤ k →

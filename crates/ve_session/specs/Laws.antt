@@ -11,9 +11,8 @@ use Rattle.model_world.specs.Spelled.{reply_text}
 use Rattle.model_world.specs.World.{Closed, output_of, world_after}
 use Rattle.model_world_law.specs.ViewLines.{told_last_line}
 use Rattle.ve_session.specs.Asked.{reply_and_world}
-use Rattle.ve_session.specs.Cost.{meaning}
 use Rattle.ve_session.specs.Opened.{world_on, IsLed, OnPage}
-use Rattle.ve_session.specs.States.{State}
+use Rattle.ve_session.specs.States.{meaning, State}
 
 -- Where lines lead to a page, and a site's list is as it was opened, `html` gives that page to it,
 -- byte for byte.

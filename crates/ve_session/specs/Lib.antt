@@ -4,7 +4,6 @@ pub mod States
 pub mod Asked
 pub mod Opened
 pub mod Turning
-pub mod Cost
 pub mod Stopped
 pub mod Laws
 pub mod Program

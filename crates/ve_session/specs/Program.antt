@@ -1,16 +1,16 @@
 -- A run of a new world, in the words of the definitions.
-use Rattle.std.specs.Prelude.{◌≡◌, ℕ, List, Option}
+use Rattle.std.specs.Prelude.{ℕ, List, Option}
 use Rattle.model_script.specs.Output.{Meaning}
 use Rattle.model_world.specs.declared.reply.Reply.{Reply}
 use Rattle.model_world.specs.World.{World, Closed, meaning, output_of}
+use Rattle.model_world_law.specs.Cost.{cost}
 use Rattle.ve_run.specs.declared.status.Status.{Status}
 use Rattle.ve_run.specs.Ended.{Moment, Ended}
 use Rattle.ve_run.specs.Run.{scene, Took, AppendsPrefix}
-use Rattle.ve_session.specs.Cost.{steps_of_line}
 
--- The plain machine of the definitions, with what a line takes here at most.
+-- The plain machine of the definitions, with how many steps a line may take.
 abbrev pub counting_meaning : Meaning World Reply
-counting_meaning = record meaning { cost = λ w line. steps_of_line w line }
+counting_meaning = record meaning { cost = λ w line. cost w line }
 
 -- All that the caller of a run can see of it, at one moment.
 pub record Seen : Type 0 where

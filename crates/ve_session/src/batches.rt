@@ -1,8 +1,8 @@
 // Several changes of a site's list as one entry.
-ghost use Rattle.std.specs.Prelude.{◌≡◌, ◌<◌, ◌≤◌, ◌+◌, IfErr, IfOk, OnErr};
+ghost use Rattle.std.specs.Prelude.{◌≡◌, ◌≢◌, ◌<◌, ◌≤◌, ◌+◌, IfErr, IfOk, OnErr};
 ghost use Rattle.model_world.specs.declared.command.Request.TheVariants as request;
+ghost use Rattle.model_world_law.specs.Cost.{cost_of_request};
 ghost use Rattle.ve_session.specs.Asked.{IsAnswered, IsStopped};
-ghost use Rattle.ve_session.specs.Cost.{steps_to_answer};
 ghost use Rattle.ve_session.specs.Turning.{MayTurn};
 ghost use Rattle.ve_sites.specs.Shared.{member_at, site_at, sites};
 
@@ -30,10 +30,11 @@ pub fn batch<L: Ledger>(
     ensures refused { IfErr result (IsStopped (request.Batch changes.now) k session.old) }
     ensures kept { OnErr result (session.new ≡ session.old) }
     ensures counted { steps.old ≤ steps.new }
-    ensures steps { steps.new
+    ensures steps { IfErr result (λ stop. stop ≢ ChangeStop.Memory)
+        → steps.new
         ≤ steps.old
-        + steps_to_answer (request.Batch changes.now) session.old.session.committed
-        (member_at session.old k) }
+        + cost_of_request session.old.session.committed (member_at session.old k) (
+        request.Batch changes.now) }
 {
     let batch = match perform_all(alloc, session.site(k).editor(), changes.as_slice(), steps) {
         Ok(batch) => batch,

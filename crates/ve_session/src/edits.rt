@@ -1,16 +1,15 @@
 // Changes of a site's list, each as one entry.
-ghost use Rattle.std.specs.Prelude.{◌≡◌, ◌<◌, ◌≤◌, ◌+◌, ◌∷◌, [], true, length, Ok, IfErr, IfOk, OnErr};
+ghost use Rattle.std.specs.Prelude.{◌≡◌, ◌≢◌, ◌<◌, ◌≤◌, ◌+◌, true, length, Ok, IfErr, IfOk, OnErr};
 ghost use Rattle.model_change.specs.Transaction.{InsertedApart};
 ghost use Rattle.model_world.specs.declared.command.Request.TheVariants as request;
 ghost use Rattle.model_world.specs.Edits.{checked_transaction};
+ghost use Rattle.model_world_law.specs.Cost.{cost_of_request, cost_of_transactions, made_of};
 ghost use Rattle.ve_changes.specs.Moves.{is_move};
 ghost use Rattle.ve_changes.specs.Stops.{IsRefused};
-ghost use Rattle.ve_editor.specs.Counted.{steps_after};
 ghost use Rattle.ve_editor.specs.Edited.{drafted, IsDraftOf};
 ghost use Rattle.ve_editor.specs.Page.{IsPage};
 ghost use Rattle.ve_offsets.specs.Docs.{page_items};
 ghost use Rattle.ve_session.specs.Asked.{IsAnswered, IsPerformed, IsStopped};
-ghost use Rattle.ve_session.specs.Cost.{steps_to_answer};
 ghost use Rattle.ve_session.specs.Turning.{MayTurn};
 ghost use Rattle.ve_sites.specs.Shared.{member_at, site_at, sites};
 
@@ -64,10 +63,14 @@ fn perform<L: Ledger>(
         Ok (drafted (site_at session.old k).replica.store draft.now)))) }
     ensures kept { OnErr result (session.new ≡ session.old) }
     ensures counted { steps.old ≤ steps.new }
-    ensures steps { steps.new
+    ensures steps { IfErr result (λ stop. stop ≢ ChangeStop.Memory)
+        → steps.new
         ≤ steps.old
-        + steps_after (drafted (site_at session.old k).replica.store draft.now ∷ [])
-        (site_at session.old k).replica.items }
+        + cost_of_transactions (
+        made_of (
+        checked_transaction (site_at session.old k).replica (
+        Ok (drafted (site_at session.old k).replica.store draft.now)))) (
+        site_at session.old k).replica.items }
 {
     match session.edit(k, draft, steps) {
         Ok(()) => Ok(Answer::Length(len_at(session, k))),
@@ -90,10 +93,11 @@ pub fn edit<L: Ledger>(
     ensures refused { IfErr result (IsStopped (request.Edit change.now) k session.old) }
     ensures kept { OnErr result (session.new ≡ session.old) }
     ensures counted { steps.old ≤ steps.new }
-    ensures steps { steps.new
+    ensures steps { IfErr result (λ stop. stop ≢ ChangeStop.Memory)
+        → steps.new
         ≤ steps.old
-        + steps_to_answer (request.Edit change.now) session.old.session.committed
-        (member_at session.old k) }
+        + cost_of_request session.old.session.committed (member_at session.old k) (
+        request.Edit change.now) }
 {
     layers_fit();
     let draft = change_draft(alloc, doc_at(session, k), change)?;
@@ -116,9 +120,10 @@ pub fn move_part<L: Ledger>(
     ensures refused { IfErr result (IsStopped request.now k session.old) }
     ensures kept { OnErr result (session.new ≡ session.old) }
     ensures counted { steps.old ≤ steps.new }
-    ensures steps { steps.new
+    ensures steps { IfErr result (λ stop. stop ≢ ChangeStop.Memory)
+        → steps.new
         ≤ steps.old
-        + steps_to_answer request.now session.old.session.committed (member_at session.old k) }
+        + cost_of_request session.old.session.committed (member_at session.old k) request.now }
 {
     layers_fit();
     moves_are_asked();
@@ -142,10 +147,11 @@ pub fn erase<L: Ledger>(
     ensures refused { IfErr result (IsStopped (request.Erase dir by) k session.old) }
     ensures kept { OnErr result (session.new ≡ session.old) }
     ensures counted { steps.old ≤ steps.new }
-    ensures steps { steps.new
+    ensures steps { IfErr result (λ stop. stop ≢ ChangeStop.Memory)
+        → steps.new
         ≤ steps.old
-        + steps_to_answer (request.Erase dir by) session.old.session.committed
-        (member_at session.old k) }
+        + cost_of_request session.old.session.committed (member_at session.old k) (
+        request.Erase dir by) }
 {
     layers_fit();
     let selection = session.site(k).editor().selection();

@@ -1,8 +1,8 @@
 // Undo and redo of a site.
 ghost use Rattle.std.specs.Prelude.{◌≡◌, ◌<◌, ◌≤◌, ◌+◌, IfErr, IfOk, OnErr};
 ghost use Rattle.model_world.specs.declared.command.Request.TheVariants as request;
+ghost use Rattle.model_world_law.specs.Cost.{cost_of_request};
 ghost use Rattle.ve_session.specs.Asked.{IsAnswered, IsStopped};
-ghost use Rattle.ve_session.specs.Cost.{steps_to_answer};
 ghost use Rattle.ve_session.specs.Turning.{MayTurn};
 ghost use Rattle.ve_sites.specs.Shared.{member_at, site_at, sites};
 
@@ -30,7 +30,7 @@ pub fn undo<L: Ledger>(
     ensures counted { steps.old ≤ steps.new }
     ensures steps { steps.new
         ≤ steps.old
-        + steps_to_answer request.Undo session.old.session.committed (member_at session.old k) }
+        + cost_of_request session.old.session.committed (member_at session.old k) request.Undo }
 {
     match session.undo(k, steps) {
         Ok(()) => Ok(Answer::Length(len_at(session, k))),
@@ -53,7 +53,7 @@ pub fn redo<L: Ledger>(
     ensures counted { steps.old ≤ steps.new }
     ensures steps { steps.new
         ≤ steps.old
-        + steps_to_answer request.Redo session.old.session.committed (member_at session.old k) }
+        + cost_of_request session.old.session.committed (member_at session.old k) request.Redo }
 {
     match session.redo(k, steps) {
         Ok(()) => Ok(Answer::Length(len_at(session, k))),
@@ -77,8 +77,8 @@ pub fn revoke<L: Ledger>(
     ensures counted { steps.old ≤ steps.new }
     ensures steps { steps.new
         ≤ steps.old
-        + steps_to_answer (request.Revoke entry) session.old.session.committed
-        (member_at session.old k) }
+        + cost_of_request session.old.session.committed (member_at session.old k) (
+        request.Revoke entry) }
 {
     let seen = session.site(k).seen();
     if entry >= seen {

@@ -1,18 +1,17 @@
 //! A world: the page that is open with the sites that edit it, and the commands on it.
 //!
-//! Proved: a step answers as `model_world`'s machine and leads to the model's next world, and its
-//! steps have a bound. After want of memory the world is spent: every later step says so.
-//! `run_program` makes a world and runs it.
+//! Proved: a step answers as `model_world`'s machine and leads to the model's next world, and takes
+//! no more steps than the `Cost` of model_world_law says. After want of memory the world is spent:
+//! every later step says so. `run_program` makes a world and runs it.
 //!
 //! The reply to a line is `model_world`'s, and the world after it is the model's. A world holds the
 //! page as it was first read beside the session on it, and its type keeps that some lines lead to
 //! its world. So the invariants of every world that lines lead to hold of it
 //! ([`World::lines_lead`]), and nothing is asked of its caller. In reading order:
 //!
-//! - `States`: the state that a world keeps between lines;
+//! - `States`: the state that a world keeps between lines, and the machine that a world is;
 //! - `Asked`: the outcome of a command, and of a request to one of the sites;
 //! - `Opened`: the invariant of an open page; `Turning`: the invariant of a site that is asked;
-//! - `Cost`: how many steps a line takes at most, and the `meaning` of a world as a machine;
 //! - `Stopped`: how a refusal of the crates below is told;
 //! - `Laws`: `html` of a list that is as it was opened gives the page back
 //!   ([`unedited_page_is_told`]); so it is answered without a walk. What `changes` answers leads from
@@ -23,8 +22,7 @@
 //! The page as it was first read stands beside the sites: text, rows, list with values, table of
 //! references. So the items of a page just opened for one site stand in two lists.
 //!
-//! The bound on a line's steps counts the transaction that a change would make, also where it is
-//! refused.
+//! Of a line for which memory is wanting the bound says nothing.
 #![tactic(auto)]
 
 mod batches;

@@ -3,11 +3,11 @@ ghost use Rattle.std.specs.Prelude.{◌≡◌, ◌≤◌, ◌<◌, ◌+◌, ◌+
 ghost use Rattle.model_world.specs.declared.command.Command.TheVariants.{Ask};
 ghost use Rattle.model_world.specs.declared.command.Request.TheVariants as request;
 ghost use Rattle.model_world.specs.Opening.{open_page, session_of};
+ghost use Rattle.model_world_law.specs.Cost.{cost_of_command, cost_of_opening};
 ghost use Rattle.ve_run.specs.Run.{reply_line};
 ghost use Rattle.ve_changes.specs.Stops.{IsRefused};
 ghost use Rattle.ve_read.specs.Pages.{HasPlaces, IsReadPage};
 ghost use Rattle.ve_session.specs.Asked.{is_shown, reply_and_world, IsAsked};
-ghost use Rattle.ve_session.specs.Cost.{steps_of, steps_to_open};
 ghost use Rattle.ve_session.specs.Opened.{world_on, HasUtf8Page, IsLed, MayOpen};
 
 use crate::edits::doc_at;
@@ -67,7 +67,7 @@ impl OpenPage {
             (open_page text ≡ Ok p.page) × (p.session ≡ session_of p.page sites)) }
         ensures refused { IfErr result (λ stop. IsRefused stop (open_page text)) }
         ensures counted { steps.old ≤ steps.new }
-        ensures steps { steps.new ≤ steps.old + steps_to_open sites (open_page text) }
+        ensures steps { steps.new ≤ steps.old + cost_of_opening sites (open_page text) }
     {
         match page(alloc, text.as_str()) {
             Ok(read) => Ok(OpenPage::begin(alloc, text, read, sites, steps)?),
@@ -90,7 +90,7 @@ impl OpenPage {
         ensures ok { IfOk result (λ p.
             (open_page text ≡ Ok p.page) × (p.session ≡ session_of p.page sites)) }
         ensures counted { steps.old ≤ steps.new }
-        ensures steps { steps.new ≤ steps.old + steps_to_open sites (open_page text) }
+        ensures steps { steps.new ≤ steps.old + cost_of_opening sites (open_page text) }
     {
         // a page that opens is a sound list, and its rows have their positions in it
         layers_fit();
@@ -241,8 +241,9 @@ impl OpenPage {
             world_on self.new ≡ (reply_and_world (world_on self.old) (Ask request.now k)).1) }
         ensures unsaid { OnErr result (out.new ≡ out.old) }
         ensures counted { steps.old ≤ steps.new }
-        ensures cost { steps.new
-            ≤ steps.old + steps_of (world_on self.old) (Ok (Ask request.now k)) }
+        ensures cost { OnOk result (
+            steps.new
+            ≤ steps.old + cost_of_command (world_on self.old) (Ok (Ask request.now k))) }
     {
         layers_fit();
         every_site_holds();
@@ -269,8 +270,9 @@ impl OpenPage {
             world_on self.new ≡ (reply_and_world (world_on self.old) (Ask request.now k)).1) }
         ensures unsaid { OnErr result (out.new ≡ out.old) }
         ensures counted { steps.old ≤ steps.new }
-        ensures cost { steps.new
-            ≤ steps.old + steps_of (world_on self.old) (Ok (Ask request.now k)) }
+        ensures cost { OnOk result (
+            steps.new
+            ≤ steps.old + cost_of_command (world_on self.old) (Ok (Ask request.now k))) }
     {
         if is_shown(request) {
             self.show(alloc, request, k, out)

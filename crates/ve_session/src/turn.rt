@@ -1,8 +1,8 @@
 // A request that may change a site or the queues.
-ghost use Rattle.std.specs.Prelude.{◌≡◌, ◌<◌, ◌≤◌, ◌+◌, false, IfErr, IfOk, OnErr};
+ghost use Rattle.std.specs.Prelude.{◌≡◌, ◌≢◌, ◌<◌, ◌≤◌, ◌+◌, false, IfErr, IfOk, OnErr, OnOk};
+ghost use Rattle.model_world_law.specs.Cost.{cost_of_request};
 ghost use Rattle.ve_json.specs.Answers.{AnswerCites};
 ghost use Rattle.ve_session.specs.Asked.{is_shown, IsAnswered, IsStopped};
-ghost use Rattle.ve_session.specs.Cost.{steps_to_answer};
 ghost use Rattle.ve_session.specs.Turning.{MayTurn};
 ghost use Rattle.ve_sites.specs.Shared.{member_at, site_at, sites};
 
@@ -36,9 +36,10 @@ fn done<L: Ledger>(
     ensures refused { IfErr result (IsStopped request.now k session.old) }
     ensures kept { OnErr result (session.new ≡ session.old) }
     ensures counted { steps.old ≤ steps.new }
-    ensures steps { steps.new
+    ensures steps { IfErr result (λ stop. stop ≢ ChangeStop.Memory)
+        → steps.new
         ≤ steps.old
-        + steps_to_answer request.now session.old.session.committed (member_at session.old k) }
+        + cost_of_request session.old.session.committed (member_at session.old k) request.now }
 {
     match request {
         Request::Edit { change } => edit(alloc, session, k, change, steps),
@@ -74,9 +75,10 @@ pub fn turn<L: Ledger>(
     ensures cites { IfOk result AnswerCites }
     ensures kept { OnErr result (session.new ≡ session.old) }
     ensures counted { steps.old ≤ steps.new }
-    ensures steps { steps.new
+    ensures steps { OnOk result (
+        steps.new
         ≤ steps.old
-        + steps_to_answer request.now session.old.session.committed (member_at session.old k) }
+        + cost_of_request session.old.session.committed (member_at session.old k) request.now) }
 {
     match done(alloc, session, k, request, steps) {
         Ok(answer) => Ok(answer),

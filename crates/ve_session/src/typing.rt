@@ -1,16 +1,16 @@
 // A text typed at a site: its caret stands after the text then.
-ghost use Rattle.std.specs.Prelude.{◌≡◌, ◌<◌, ◌≤◌, ◌+◌, IfErr, IfOk, OnErr};
+ghost use Rattle.std.specs.Prelude.{◌≡◌, ◌≢◌, ◌<◌, ◌≤◌, ◌+◌, IfErr, IfOk, OnErr};
 ghost use Rattle.model_world.specs.Answers.{lower};
 ghost use Rattle.model_world.specs.Edits.{change_of};
 ghost use Rattle.model_world.specs.declared.edit_command.EditCommand.TheVariants as change;
 ghost use Rattle.model_world.specs.declared.edit_command.TextMarks.TheVariants.{Left};
 ghost use Rattle.model_world.specs.declared.command.Request.TheVariants as request;
+ghost use Rattle.model_world_law.specs.Cost.{cost_of_request};
 ghost use Rattle.ve_changes.specs.Drafts.{IsDrafted};
 ghost use Rattle.ve_changes.specs.Stops.{IsRefused};
 ghost use Rattle.ve_editor.specs.Page.{IsPage};
 ghost use Rattle.ve_offsets.specs.Docs.{page_items};
 ghost use Rattle.ve_session.specs.Asked.{IsAnswered, IsStopped};
-ghost use Rattle.ve_session.specs.Cost.{steps_to_answer};
 ghost use Rattle.ve_session.specs.Turning.{MayTurn};
 ghost use Rattle.ve_sites.specs.Shared.{member_at, site_at, sites};
 
@@ -63,10 +63,11 @@ fn type_here<L: Ledger>(
     ensures refused { IfErr result (IsStopped (request.TypeText text.now) k session.old) }
     ensures kept { OnErr result (session.new ≡ session.old) }
     ensures counted { steps.old ≤ steps.new }
-    ensures steps { steps.new
+    ensures steps { IfErr result (λ stop. stop ≢ ChangeStop.Memory)
+        → steps.new
         ≤ steps.old
-        + steps_to_answer (request.TypeText text.now) session.old.session.committed
-        (member_at session.old k) }
+        + cost_of_request session.old.session.committed (member_at session.old k) (
+        request.TypeText text.now) }
 {
     layers_fit();
     let draft = put_draft(alloc, doc_at(session, k), at, text)?;
@@ -101,10 +102,11 @@ fn type_over<L: Ledger>(
     ensures refused { IfErr result (IsStopped (request.TypeText text.now) k session.old) }
     ensures kept { OnErr result (session.new ≡ session.old) }
     ensures counted { steps.old ≤ steps.new }
-    ensures steps { steps.new
+    ensures steps { IfErr result (λ stop. stop ≢ ChangeStop.Memory)
+        → steps.new
         ≤ steps.old
-        + steps_to_answer (request.TypeText text.now) session.old.session.committed
-        (member_at session.old k) }
+        + cost_of_request session.old.session.committed (member_at session.old k) (
+        request.TypeText text.now) }
 {
     let typed = match type_text(alloc, session.site(k).editor(), text, steps) {
         Ok(typed) => typed,
@@ -138,10 +140,11 @@ pub fn type_at<L: Ledger>(
     ensures refused { IfErr result (IsStopped (request.TypeText text.now) k session.old) }
     ensures kept { OnErr result (session.new ≡ session.old) }
     ensures counted { steps.old ≤ steps.new }
-    ensures steps { steps.new
+    ensures steps { IfErr result (λ stop. stop ≢ ChangeStop.Memory)
+        → steps.new
         ≤ steps.old
-        + steps_to_answer (request.TypeText text.now) session.old.session.committed
-        (member_at session.old k) }
+        + cost_of_request session.old.session.committed (member_at session.old k) (
+        request.TypeText text.now) }
 {
     let selection = session.site(k).editor().selection();
     if selection.anchor == selection.focus {

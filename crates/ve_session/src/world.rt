@@ -2,10 +2,10 @@
 ghost use Rattle.std.specs.Prelude.{◌≡◌, ◌≤◌, ◌+◌, ◌++◌, true, Ok, IsErr, OnOk, OnErr, option_map};
 ghost use Rattle.model_world.specs.declared.command.Command.TheVariants.{Ask, OpenPage as OpensPage};
 ghost use Rattle.model_world.specs.declared.reply.Reply.TheVariants as reply;
-ghost use Rattle.ve_run.specs.Run.{reply_line};
 ghost use Rattle.model_world.specs.World.{reply as model_reply};
+ghost use Rattle.model_world_law.specs.Cost.{cost, cost_of_command};
+ghost use Rattle.ve_run.specs.Run.{reply_line};
 ghost use Rattle.ve_session.specs.Asked.{reply_and_world, IsAsked};
-ghost use Rattle.ve_session.specs.Cost.{steps_of, steps_of_line};
 ghost use Rattle.ve_session.specs.Opened.{replica_in, HasUtf8Page, IsLed};
 ghost use Rattle.ve_session.specs.States.{after, closed_state, spent_state};
 
@@ -105,7 +105,9 @@ impl World {
             }) }
         ensures unsaid { OnErr result (out.new ≡ out.old) }
         ensures counted { steps.old ≤ steps.new }
-        ensures cost { steps.new ≤ steps.old + steps_of self.old.world (Ok (OpensPage text sites)) }
+        ensures cost { OnOk result (
+            steps.new
+            ≤ steps.old + cost_of_command self.old.world (Ok (OpensPage text sites))) }
     {
         self.lines_lead();
         match OpenPage::open(self.alloc, text, sites, steps) {
@@ -138,7 +140,9 @@ impl World {
             }) }
         ensures unsaid { OnErr result (out.new ≡ out.old) }
         ensures counted { steps.old ≤ steps.new }
-        ensures cost { steps.new ≤ steps.old + steps_of self.old.world (Ok (Ask request.now site)) }
+        ensures cost { OnOk result (
+            steps.new
+            ≤ steps.old + cost_of_command self.old.world (Ok (Ask request.now site))) }
     {
         let Some(page) = &mut self.page else {
             return refuse(self.alloc, Refusal::NotOpen, out);
@@ -165,7 +169,8 @@ impl World {
             self.new ≡ record self.old { world = (reply_and_world self.old.world command).1 }) }
         ensures unsaid { OnErr result (out.new ≡ out.old) }
         ensures counted { steps.old ≤ steps.new }
-        ensures cost { steps.new ≤ steps.old + steps_of self.old.world (Ok command) }
+        ensures cost { OnOk result (
+            steps.new ≤ steps.old + cost_of_command self.old.world (Ok command)) }
     {
         match command {
             Command::OpenPage { page, sites } => self.open(page, sites, out, steps),
@@ -187,7 +192,7 @@ impl World {
         ensures unsaid { OnErr result (out.new ≡ out.old) }
         ensures stays_spent { self.old.is_spent ≡ true → IsErr result }
         ensures counted { steps.old ≤ steps.new }
-        ensures cost { steps.new ≤ steps.old + steps_of_line self.old.world line.now }
+        ensures cost { OnOk result (steps.new ≤ steps.old + cost self.old.world line.now) }
     {
         if self.is_spent {
             return Err(Memory);
@@ -221,7 +226,7 @@ impl World {
         ensures spent_state { OnErr result (self.new ≡ spent_state) }
         ensures stays_spent { self.old.is_spent ≡ true → IsErr result }
         ensures counted { steps.old ≤ steps.new }
-        ensures cost { steps.new ≤ steps.old + steps_of_line self.old.world line.now }
+        ensures cost { OnOk result (steps.new ≤ steps.old + cost self.old.world line.now) }
     {
         match self.answer(line, out, steps) {
             Ok(()) => Ok(()),
@@ -235,7 +240,7 @@ impl World {
 }
 
 impl Machine for World {
-    ghost use Rattle.ve_session.specs.Cost.{meaning};
+    ghost use Rattle.ve_session.specs.States.{meaning};
 
     ghost meaning = { meaning };
 

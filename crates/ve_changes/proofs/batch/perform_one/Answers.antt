@@ -1,14 +1,14 @@
-use Rattle.std.proofs.Common.{ap, ◌∙◌, subst, sym}
+use Rattle.std.proofs.Common.{arith, ap, ◌∙◌, subst, sym}
 use Rattle.std.proofs.lemmas.Result.{err_from_is_err_and}
 use Rattle.model_items.specs.Plain.{plain_list}
 use Rattle.model_site.specs.Refused.{edit_cause}
 use Rattle.model_world.specs.Edits.{change_on}
-use Rattle.ve_changes.specs.Stops.{IsRefused}
+use Rattle.ve_changes.specs.Stops.{IsRefused, edit_stop}
 use Rattle.ve_changes.proofs.StopLemmas.{edit_stops}
 use Rattle.ve_editor.specs.Edited.{drafted}
 use Rattle.ve_editor.specs.Page.{IsPage}
 use Rattle.ve_offsets.specs.Docs.{page_items}
-use Rattle.ve_changes.proofs.BatchLemmas.{allowed_is, drafted_on, may_run, not_allowed, steps_of_one, undrafted}
+use Rattle.ve_changes.proofs.BatchLemmas.{allowed_is, cost_of_one, drafted_on, may_run, not_allowed, undrafted}
 use Rattle.ve_changes.proofs.batch.perform_one.Goals as goal
 
 pub change_draft-requires-clause-page : goal.change_draft-requires-clause-page
@@ -42,11 +42,12 @@ returns-in-Ok-clause-ok g c =
     }
 
 pub returns-in-Ok-clause-steps : goal.returns-in-Ok-clause-steps
-returns-in-Ok-clause-steps g c =
+returns-in-Ok-clause-steps g c = λ _.
     let r = c.args.editor.now in
     let items = ap (λ s. plain_list s c.doc.result.list.now.items) c.doc.ensures.store ∙ c.doc.ensures.items in
     let d = drafted_on r c.doc.result.store.now (page_items c.doc.result) c.args.change.now c.in_ok-draft.draft c.doc.ensures.store items c.in_ok-draft.ensures.ok in
-    steps_of_one r c.args.change.now (drafted r.store c.in_ok-draft.draft) c.args.steps.now c.perform.new.steps d.same c.perform.ensures.steps
+    let t = drafted r.store c.in_ok-draft.draft in
+    cost_of_one r c.args.change.now t c.args.steps.now c.perform.new.steps (allowed_is r c.args.change.now t d.same c.in-Ok.ensures.allowed) c.perform.ensures.steps
 
 pub returns-clause-refused : goal.returns-clause-refused
 returns-clause-refused g c =
@@ -58,9 +59,5 @@ returns-clause-refused g c =
     (not_allowed r c.args.change.now t _ d.same (edit_stops c.in-Err.fault (edit_cause t r) t c.in-Err.ensures.refused))
 
 pub returns-clause-steps : goal.returns-clause-steps
-returns-clause-steps g c =
-    let r = c.args.editor.now in
-    let items = ap (λ s. plain_list s c.doc.result.list.now.items) c.doc.ensures.store ∙ c.doc.ensures.items in
-    let d = drafted_on r c.doc.result.store.now (page_items c.doc.result) c.args.change.now c.in_ok-draft.draft c.doc.ensures.store items c.in_ok-draft.ensures.ok in
-    let t = drafted r.store c.in_ok-draft.draft in
-    steps_of_one r c.args.change.now t c.args.steps.now c.perform.new.steps d.same c.perform.ensures.steps
+returns-clause-steps g c = λ h.
+    let unstepped = c.in-Err.ensures.unstepped (λ e. h (c.from.ensures ∙ ap edit_stop e)) in omega (arith, unstepped)

@@ -1,9 +1,9 @@
-use Rattle.std.proofs.Common.{◌≤◌, ◌+◌, ap, ◌∙◌, subst, sym}
+use Rattle.std.proofs.Common.{◌≤◌, ◌+◌, true, ap, ◌∙◌, subst, sym}
 use Rattle.model_world.specs.Answers.{typing}
 use Rattle.model_world.specs.Edits.{batch_on}
+use Rattle.model_world_law.specs.Cost.{cost_of_made, made_in_turn}
 use Rattle.model_world_law.specs.Fit.{AllWritten}
 use Rattle.ve_changes.specs.Batches.{IsBatch, IsBatchRefused}
-use Rattle.ve_changes.specs.Costs.{steps_of_batch}
 use Rattle.ve_changes.proofs.TypingLemmas.{typing_is_written}
 use Rattle.ve_changes.proofs.typed.type_text.Goals as goal
 
@@ -19,14 +19,14 @@ returns-in-Ok-clause-ok g c =
     (subst (λ cs. IsBatch c.args.editor.now (batch_on c.args.editor.now cs) c.in-Ok.batch) same c.in-Ok.ensures.ok)
 
 pub returns-in-Ok-clause-steps : goal.returns-in-Ok-clause-steps
-returns-in-Ok-clause-steps g c =
+returns-in-Ok-clause-steps g c = λ _.
     let same = c.as_slice.ensures ∙ c.in_ok-changes.ensures ∙ ap (λ s. typing s c.args.text.now) c.selection.ensures in
-    subst (λ cs. c.perform_all.new.steps ≤ c.args.steps.now + steps_of_batch c.args.editor.now cs) same c.in-Ok.ensures.steps
+    subst (λ cs. c.perform_all.new.steps ≤ c.args.steps.now + cost_of_made true (made_in_turn c.args.editor.now cs) c.args.editor.now.items) same (c.in-Ok.ensures.steps tt)
 
 pub returns-in_err-with_caret-in-Ok-clause-steps : goal.returns-in_err-with_caret-in-Ok-clause-steps
-returns-in_err-with_caret-in-Ok-clause-steps g c =
+returns-in_err-with_caret-in-Ok-clause-steps g c = λ _.
     let same = c.as_slice.ensures ∙ c.in_ok-changes.ensures ∙ ap (λ s. typing s c.args.text.now) c.selection.ensures in
-    subst (λ cs. c.perform_all.new.steps ≤ c.args.steps.now + steps_of_batch c.args.editor.now cs) same c.in-Ok.ensures.steps
+    subst (λ cs. c.perform_all.new.steps ≤ c.args.steps.now + cost_of_made true (made_in_turn c.args.editor.now cs) c.args.editor.now.items) same (c.in-Ok.ensures.steps tt)
 
 pub returns-clause-refused : goal.returns-clause-refused
 returns-clause-refused g c =
@@ -34,6 +34,6 @@ returns-clause-refused g c =
     subst (λ cs. IsBatchRefused (batch_on c.args.editor.now cs) c.in-Err.stop) same c.in-Err.ensures.refused
 
 pub returns-clause-steps : goal.returns-clause-steps
-returns-clause-steps g c =
+returns-clause-steps g c = λ h.
     let same = c.as_slice.ensures ∙ c.in_ok-changes.ensures ∙ ap (λ s. typing s c.args.text.now) c.selection.ensures in
-    subst (λ cs. c.perform_all.new.steps ≤ c.args.steps.now + steps_of_batch c.args.editor.now cs) same c.in-Err.ensures.steps
+    subst (λ cs. c.perform_all.new.steps ≤ c.args.steps.now + cost_of_made true (made_in_turn c.args.editor.now cs) c.args.editor.now.items) same (c.in-Err.ensures.steps h)

@@ -4,7 +4,8 @@ use Rattle.model_world.specs.Edits.{checked_transaction, change_of}
 use Rattle.ve_changes.specs.Stops.{IsRefused}
 use Rattle.ve_editor.specs.Edited.{drafted}
 use Rattle.ve_session.specs.Asked.{IsAnswered, IsPerformed, IsStopped}
-use Rattle.ve_session.proofs.DraftLemmas.{drafted_at, err_as, ok_as, steps_of_meant}
+use Rattle.ve_session.proofs.CostLemmas.{cost_of_meant}
+use Rattle.ve_session.proofs.DraftLemmas.{drafted_at, err_as, ok_as}
 use Rattle.ve_session.proofs.TurnLemmas.{answered_by, barred}
 use Rattle.ve_sites.specs.Shared.{site_at}
 use Rattle.std.proofs.Common.{refl}
@@ -37,7 +38,7 @@ returns-clause-refused g c =
     (λ why is. barred r c.args.k old (change_of s.replica.items c.args.change.now) (λ page. refl) t why d.same is) c.perform.ensures.refused
 
 pub returns-clause-steps : goal.returns-clause-steps
-returns-clause-steps g c =
-    let s = site_at c.args.session.now c.args.k in
+returns-clause-steps g c = λ h.
+    let r = (site_at c.args.session.now c.args.k).replica in
     let d = drafted_at (λ items. change_of items c.args.change.now) _ _ _ _ c.in_ok-draft.draft c.doc_at.ensures.store c.doc_at.ensures.items c.in_ok-draft.ensures.ok in
-    steps_of_meant s.replica.items (change_of s.replica.items c.args.change.now) (drafted s.replica.store c.in_ok-draft.draft) c.args.steps.now c.perform.new.steps d.same c.perform.ensures.steps
+    cost_of_meant r (change_of r.items c.args.change.now) (drafted r.store c.in_ok-draft.draft) c.args.steps.now c.perform.new.steps d.same (c.perform.ensures.steps h)

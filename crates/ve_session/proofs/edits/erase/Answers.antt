@@ -8,7 +8,8 @@ use Rattle.model_world.specs.Edits.{checked_transaction, change_of}
 use Rattle.ve_changes.specs.Stops.{IsRefused}
 use Rattle.ve_editor.specs.Edited.{drafted}
 use Rattle.ve_session.specs.Asked.{IsAnswered, IsPerformed, IsStopped}
-use Rattle.ve_session.proofs.DraftLemmas.{drafted_at, erase_steps, erased_at, erases, err_as, ok_as, steps_of_meant, unerased}
+use Rattle.ve_session.proofs.CostLemmas.{cost_of_meant}
+use Rattle.ve_session.proofs.DraftLemmas.{drafted_at, erase_cost, erased_at, erases, err_as, ok_as, unerased}
 use Rattle.ve_session.proofs.TurnLemmas.{answered_by, barred}
 use Rattle.ve_sites.specs.Shared.{site_at}
 use Rattle.ve_session.proofs.edits.erase.Goals as goal
@@ -58,12 +59,12 @@ returns-clause-refused g c =
     (erases c.args.k old c.args.dir c.args.by c.in_ok-range.range e c.min.result c.max.result c.min.ensures c.max.ensures) t why d.same is) c.perform.ensures.refused
 
 pub returns-clause-steps : goal.returns-clause-steps
-returns-clause-steps g c =
+returns-clause-steps g c = λ h.
     let old = c.args.session.now in
     let s = site_at old c.args.k in
     let remove = change.Remove c.min.result c.max.result in
     let selected = c.selection-selection.ensures ∙ ap (λ (r : Replica). r.selection) (c.editor.ensures ∙ ap (λ s. s.replica) c.site.ensures) in
     let e = erased_at c.args.k old c.args.dir c.args.by _ _ c.in_ok-range.range c.doc_at.ensures.items selected c.in_ok-range.ensures.ok in
     let d = drafted_at (λ items. change_of items remove) _ _ _ _ c.in_ok-draft.draft c.doc_at-2.ensures.store c.doc_at-2.ensures.items c.in_ok-draft.ensures.ok in
-    erase_steps c.args.k old c.args.dir c.args.by c.in_ok-range.range e c.min.result c.max.result c.min.ensures c.max.ensures c.args.steps.now c.perform.new.steps
-    (steps_of_meant s.replica.items (change_of s.replica.items remove) (drafted s.replica.store c.in_ok-draft.draft) c.args.steps.now c.perform.new.steps d.same c.perform.ensures.steps)
+    erase_cost c.args.k old c.args.dir c.args.by c.in_ok-range.range e c.min.result c.max.result c.min.ensures c.max.ensures c.args.steps.now c.perform.new.steps
+    (cost_of_meant s.replica (change_of s.replica.items remove) (drafted s.replica.store c.in_ok-draft.draft) c.args.steps.now c.perform.new.steps d.same (c.perform.ensures.steps h))

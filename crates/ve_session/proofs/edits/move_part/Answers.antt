@@ -5,7 +5,8 @@ use Rattle.ve_changes.specs.Moves.{moved_by}
 use Rattle.ve_changes.specs.Stops.{IsRefused}
 use Rattle.ve_editor.specs.Edited.{drafted}
 use Rattle.ve_session.specs.Asked.{asker, IsAnswered, IsPerformed, IsStopped}
-use Rattle.ve_session.proofs.DraftLemmas.{drafted_at, err_as, move_fits, move_steps, ok_as, steps_of_meant}
+use Rattle.ve_session.proofs.CostLemmas.{cost_of_meant}
+use Rattle.ve_session.proofs.DraftLemmas.{drafted_at, err_as, move_costs, move_fits, ok_as}
 use Rattle.ve_session.proofs.TurnLemmas.{answered_by, barred}
 use Rattle.ve_sites.specs.Shared.{member_at, site_at}
 use Rattle.ve_session.proofs.edits.move_part.Goals as goal
@@ -37,8 +38,9 @@ returns-clause-refused g c =
     (λ why is. barred r c.args.k old (moved_by s.replica.items c.args.request.now) (λ page. c.moves_are_asked.ensures (asker page old c.args.k) r c.requires.moves) t why d.same is) c.perform.ensures.refused
 
 pub returns-clause-steps : goal.returns-clause-steps
-returns-clause-steps g c =
-    let s = site_at c.args.session.now c.args.k in
+returns-clause-steps g c = λ h.
+    let old = c.args.session.now in
+    let r = (site_at old c.args.k).replica in
     let d = drafted_at (λ items. moved_by items c.args.request.now) _ _ _ _ c.in_ok-draft.draft c.doc_at.ensures.store c.doc_at.ensures.items c.in_ok-draft.ensures.ok in
-    subst (λ n. c.perform.new.steps ≤ c.args.steps.now + n) (sym (move_steps c.args.request.now c.args.session.now.session.committed (member_at c.args.session.now c.args.k) c.requires.moves))
-    (steps_of_meant s.replica.items (moved_by s.replica.items c.args.request.now) (drafted s.replica.store c.in_ok-draft.draft) c.args.steps.now c.perform.new.steps d.same c.perform.ensures.steps)
+    subst (λ n. c.perform.new.steps ≤ c.args.steps.now + n) (sym (move_costs c.args.request.now old.session.committed (member_at old c.args.k) c.requires.moves))
+    (cost_of_meant r (moved_by r.items c.args.request.now) (drafted r.store c.in_ok-draft.draft) c.args.steps.now c.perform.new.steps d.same (c.perform.ensures.steps h))

@@ -1,4 +1,3 @@
-use Rattle.std.proofs.Common.{◌≡◌, [], List, ℕ}
 use Rattle.ve_session.specs.Program.{seen_of}
 use Rattle.ve_session.proofs.ProgramLemmas.{ended_new, headline_new, prefix_new}
 use Rattle.ve_session.proofs.program.run_program.Goals as goal

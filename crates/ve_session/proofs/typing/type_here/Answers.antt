@@ -1,4 +1,4 @@
-use Rattle.std.proofs.Common.{[], ◌∷◌, ap, sym, subst, ◌∙◌}
+use Rattle.std.proofs.Common.{[], ◌∷◌, arith, ap, sym, subst, ◌∙◌}
 use Rattle.std.proofs.lemmas.Result.{err_from_is_err_and}
 use Rattle.model_edit.specs.Translate.{between}
 use Rattle.model_site.specs.Site.{with_entry, with_selection}
@@ -6,13 +6,14 @@ use Rattle.model_world.specs.declared.edit_command.EditCommand.TheVariants as ch
 use Rattle.model_world.specs.declared.edit_command.TextMarks.TheVariants.{Left}
 use Rattle.model_world.specs.declared.command.Request.TheVariants as request
 use Rattle.model_world.specs.Edits.{change_of}
+use Rattle.ve_changes.specs.Stops.{edit_stop}
 use Rattle.ve_editor.specs.Edited.{drafted, drafted_values}
 use Rattle.ve_session.specs.Asked.{IsStopped}
 use Rattle.ve_session.proofs.BatchLemmas.{caret_there, still_there}
 use Rattle.ve_session.proofs.CaretLemmas.{is_typed}
 use Rattle.ve_session.proofs.DraftLemmas.{drafted_at}
 use Rattle.ve_session.proofs.TurnLemmas.{edit_was}
-use Rattle.ve_session.proofs.TypedLemmas.{barred_typing, edited_there, typed_batch, typing_steps, untyped}
+use Rattle.ve_session.proofs.TypedLemmas.{barred_typing, edited_there, typed_batch, typing_cost, untyped}
 use Rattle.ve_sites.specs.Shared.{site_at, with_site_at}
 use Rattle.ve_session.proofs.typing.type_here.Goals as goal
 
@@ -41,11 +42,8 @@ returns-in-Err-clause-refused g c =
     (barred_typing c.args.k c.args.session.now c.args.text.now c.args.at c.requires.caret c.requires.at (drafted s.replica.store c.in_ok-draft.draft) c.in-Err.fault d.same c.in-Err.ensures.refused)
 
 pub returns-in-Err-clause-steps : goal.returns-in-Err-clause-steps
-returns-in-Err-clause-steps g c =
-    let s = site_at c.args.session.now c.args.k in
-    let d = drafted_at (λ items. change_of items (change.Text c.args.at c.args.text.now Left)) _ _ _ _ c.in_ok-draft.draft c.doc_at.ensures.store c.doc_at.ensures.items c.in_ok-draft.ensures.ok in
-    typing_steps c.args.k c.args.session.now c.args.text.now c.args.at c.requires.caret c.requires.at (drafted s.replica.store c.in_ok-draft.draft) c.args.steps.now c.edit.new.steps d.same
-    c.edit.ensures.steps
+returns-in-Err-clause-steps g c = λ h.
+    let unstepped = c.in-Err.ensures.unstepped (λ e. h (c.from.ensures ∙ ap edit_stop e)) in omega (arith, unstepped)
 
 pub select-requires-clause-site : goal.select-requires-clause-site
 select-requires-clause-site g c =
@@ -88,8 +86,11 @@ returns-clause-answer g c =
     is_typed k old c.select.new.self (t ∷ []) c.requires.site c.args.text.now c.edit.new.self c.len_at.result batch middle new c.len_at.ensures
 
 pub returns-clause-steps : goal.returns-clause-steps
-returns-clause-steps g c =
-    let s = site_at c.args.session.now c.args.k in
+returns-clause-steps g c = λ _.
+    let old = c.args.session.now in
+    let k = c.args.k in
+    let s = site_at old k in
+    let t = drafted s.replica.store c.in_ok-draft.draft in
     let d = drafted_at (λ items. change_of items (change.Text c.args.at c.args.text.now Left)) _ _ _ _ c.in_ok-draft.draft c.doc_at.ensures.store c.doc_at.ensures.items c.in_ok-draft.ensures.ok in
-    typing_steps c.args.k c.args.session.now c.args.text.now c.args.at c.requires.caret c.requires.at (drafted s.replica.store c.in_ok-draft.draft) c.args.steps.now c.edit.new.steps d.same
+    typing_cost k old c.args.text.now c.args.at c.requires.caret c.requires.at t c.args.steps.now c.edit.new.steps d.same (edit_was t s (site_at c.edit.new.self k) c.in-Ok.ensures.site).0
     c.edit.ensures.steps

@@ -3,8 +3,8 @@ use Rattle.std.specs.Prelude.{Ok, OnOk}
 use Rattle.model_world.specs.declared.command.Command.TheVariants.{Ask}
 use Rattle.model_world.specs.declared.reply.Reply.{Reply}
 use Rattle.model_world.specs.Spelled.{reply_text}
+use Rattle.model_world_law.specs.Cost.{cost_of_command}
 use Rattle.ve_session.specs.Asked.{reply_and_world}
-use Rattle.ve_session.specs.Cost.{steps_of}
 use Rattle.ve_session.specs.Opened.{lent_of, world_on, OnPage}
 use Rattle.ve_session.proofs.PageLemmas.{after_open, after_world, always, cost_within, may_turn, replied}
 use Rattle.ve_session.proofs.page.OpenPage.act.Goals as goal
@@ -15,13 +15,6 @@ turn-requires-clause-may g c =
     let within = subst (λ (q : OnPage). c.args.k < length q.session.members) (sym c.self.view_is) c.requires.site in
     may_turn (lent_of i.text i.body i.rows i.session.first i.first_refs) i.session c.args.k within c.self.invariant c.every_site_holds.ensures c.layers_fit.ensures.lines
     c.args.request.now c.requires.asked
-
-pub returns-in_err-answer-clause-cost : goal.returns-in_err-answer-clause-cost
-returns-in_err-answer-clause-cost g c =
-    let i = c.self.inside in
-    let within = subst (λ (q : OnPage). c.args.k < length q.session.members) (sym c.self.view_is) c.requires.site in
-    subst (λ (q : OnPage). c.turn.new.steps ≤ c.args.steps.now + steps_of (world_on q) (Ok (Ask c.args.request.now c.args.k))) c.self.view_is
-    (cost_within i.text i.body i.rows i.first_refs i.session c.args.k within c.self.invariant c.args.request.now c.args.steps.now c.turn.new.steps c.turn.ensures.steps)
 
 pub invariant_of-self-2 : goal.invariant_of-self-2
 invariant_of-self-2 g c =
@@ -54,5 +47,6 @@ pub returns-clause-cost : goal.returns-clause-cost
 returns-clause-cost g c =
     let i = c.self.inside in
     let within = subst (λ (q : OnPage). c.args.k < length q.session.members) (sym c.self.view_is) c.requires.site in
-    subst (λ (q : OnPage). c.turn.new.steps ≤ c.args.steps.now + steps_of (world_on q) (Ok (Ask c.args.request.now c.args.k))) c.self.view_is
-    (cost_within i.text i.body i.rows i.first_refs i.session c.args.k within c.self.invariant c.args.request.now c.args.steps.now c.turn.new.steps c.turn.ensures.steps)
+    always _ c.reply_text.result
+    (subst (λ (q : OnPage). c.turn.new.steps ≤ c.args.steps.now + cost_of_command (world_on q) (Ok (Ask c.args.request.now c.args.k))) c.self.view_is
+    (cost_within i.text i.body i.rows i.first_refs i.session c.args.k within c.self.invariant c.args.request.now c.args.steps.now c.turn.new.steps c.in_ok-answer.ensures.steps))
