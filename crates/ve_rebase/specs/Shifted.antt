@@ -75,6 +75,11 @@ pub record ArePaired (a b : Shifted) (s r : ActiveSpan) : Type 0 where
   pub second_length : old_size r ≡ new_size a.span
   pub one_length : new_size s ≡ new_size r
 
+-- a committed one joined with mine: it is the same transaction, and the span is that of mine
+pub record IsOver (one mine over : Shifted) (span : ActiveSpan) : Type 0 where
+  pub same : over ≡ record one { span = over.span }
+  pub paired : ArePaired one mine over.span span
+
 -- a row joined: the committed ones over mine, and the span of mine over them
 pub record IsRow (committed : List Shifted) (mine : Shifted) (over : List Shifted) (span : ActiveSpan) : Type 0 where
   pub joined : (values : List (List Value)) (others : List Value) →

@@ -1,16 +1,35 @@
 // Two lists of transactions joined, row by row.
-ghost use Rattle.std.specs.Prelude.{All, map, IfOk, IfErr, OnOk};
+ghost use Rattle.std.specs.Prelude.{◌≡◌, All, map, IfOk, IfErr, OnOk};
 ghost use Rattle.ve_tx.specs.Cites.{TxCites};
 ghost use Rattle.ve_tx.specs.Operation.{by_value};
 ghost use Rattle.ve_rebase.specs.Lists.{RunFromOneLength, AreListsJoined, AreListsRefused, IsRefusedAs};
-ghost use Rattle.ve_rebase.specs.Shifted.{IsShifted, FollowFrom, StartTogether, joined_row, joined_rows, IsRow, AreRows};
+ghost use Rattle.ve_rebase.specs.Shifted.{IsShifted, FollowFrom, StartTogether, joined_pair, joined_row, joined_rows, IsOver, IsRow, AreRows};
 ghost use Rattle.ve_rebase.specs.Span.{old_size};
 
 use crate::RebaseFault;
 use crate::shifted::{Shifted, begun, paired, written};
-use crate::span::ActiveSpan;
+use crate::span::{ActiveSpan, join_apart};
 use std::alloc::Global;
 use ve_tx::TxList;
+
+/// A committed one over one of mine: it becomes what it is over it, and the span is that of mine
+/// over it.
+fn over(one: &mut Shifted<'_>, mine: Shifted<'_>) -> Result<ActiveSpan, RebaseFault>
+    requires shifted { IsShifted one.old }
+    requires mine { IsShifted mine }
+    requires lengths { old_size one.old.span ≡ old_size mine.span }
+    ensures over { IfOk result (λ span. IsOver one.old mine.entry one.new span) }
+    ensures refused { IfErr result (λ why.
+        (values others : _) → IsRefusedAs (joined_pair values others one.old mine.entry) why) }
+{
+    let mut span = mine.span;
+    if join_apart(&mut one.span, &mut span) {
+        return Ok(span);
+    }
+    let (first, second) = paired(*one, mine)?;
+    one.span = first;
+    Ok(second)
+}
 
 /// The committed ones in turn over one of mine: they become what they are over it, and the span is
 /// that of mine over them.
@@ -26,13 +45,7 @@ fn row(committed: &mut Vec<Shifted<'_>>, mine: Shifted<'_>) -> Result<ActiveSpan
 {
     let mut span = mine.span;
     for i in 0..committed.len() {
-        let one = committed[i];
-        let (first, second) = paired(one, Shifted { tx: mine.tx, span })?;
-        committed[i] = Shifted {
-            tx: one.tx,
-            span: first,
-        };
-        span = second;
+        span = over(&mut committed[i], Shifted { tx: mine.tx, span })?;
     }
     Ok(span)
 }

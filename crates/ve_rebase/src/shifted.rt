@@ -56,6 +56,9 @@ fn conflicts(a: Shifted<'_>, b: Shifted<'_>) -> bool
 
 /// The join of the spans of two transactions on lists of one length, or both active ranges where
 /// they conflict.
+// `join_apart` has done most pairs before: the loop over them, which this stands out of, needs no
+// stack then.
+#[inline(never)]
 pub fn paired(a: Shifted<'_>, b: Shifted<'_>) -> Result<(ActiveSpan, ActiveSpan), RebaseFault>
     requires first { IsShifted a }
     requires second { IsShifted b }

@@ -1,8 +1,10 @@
 // Spans: all that joining asks of a transaction.
-ghost use Rattle.std.specs.Prelude.{◌≡◌, ◌≤◌, ◌<◌, ◌+◌, ◌-◌, ◌^◌, ◌&&◌, nat_le};
+ghost use Rattle.std.specs.Prelude.{◌≡◌, ◌≤◌, ◌<◌, ◌+◌, ◌^◌, ◌×◌, ◌&&◌, true, false, nat_le};
 ghost use Rattle.ve_base.specs.Limits.{max_total_length};
 ghost use Rattle.ve_rebase.specs.Pair.{FitsIn};
-ghost use Rattle.ve_rebase.specs.Span.{old_size, new_size, end, meet, span_between, inert, joined_first, joined_second};
+ghost use Rattle.ve_rebase.specs.Span.{old_size, new_size, end, meet, span_between, inert, joined_first, joined_second, moved_by, AreJoinedApart};
+
+use ve_base::MAX_TOTAL_LENGTH;
 
 /// Where a transaction is active, how many items it leaves before and after that, and the lengths
 /// of what lies between: the old one and the new one. `attributes` says that it has attribute
@@ -92,9 +94,10 @@ impl ActiveSpan {
 fn moved(count: usize, other: ActiveSpan) -> usize
     requires other { FitsIn max_total_length other }
     requires count { count ≤ max_total_length }
-    ensures { result ≡ (count + new_size other) - old_size other }
+    ensures { result ≡ moved_by other count }
 {
-    (count + other.new_size()).saturating_sub(other.old_size())
+    // What the other one leaves at its ends is in both of its sizes, and makes no difference.
+    (count + other.inserted).saturating_sub(other.removed)
 }
 
 /// The span of a transaction that retains all.
@@ -149,4 +152,68 @@ pub fn joined_second(a: ActiveSpan, b: ActiveSpan) -> ActiveSpan
     } else {
         b.ended(b.first, moved(b.last, a))
     }
+}
+
+/// Joins two of which the first ends before the second begins, where no list becomes too long.
+fn join_before(a: &mut ActiveSpan, b: &mut ActiveSpan) -> bool
+    requires first { FitsIn max_total_length a.old }
+    requires second { FitsIn max_total_length b.old }
+    ensures first { result ≡ true
+        → a.new ≡ span_between a.old a.old.first (moved_by b.old a.old.last) }
+    ensures second { result ≡ true
+        → b.new ≡ span_between b.old (moved_by a.old b.old.first) b.old.last }
+    ensures short { result ≡ true → new_size a.new ≤ max_total_length }
+    ensures kept { result ≡ false → (a.new ≡ a.old) × (b.new ≡ b.old) }
+{
+    let last = moved(a.last, *b);
+    if a.first + (a.inserted + last) > MAX_TOTAL_LENGTH {
+        return false;
+    }
+    b.first = moved(b.first, *a);
+    a.last = last;
+    true
+}
+
+/// Joins two of which the second ends before the first begins, where no list becomes too long.
+fn join_after(a: &mut ActiveSpan, b: &mut ActiveSpan) -> bool
+    requires first { FitsIn max_total_length a.old }
+    requires second { FitsIn max_total_length b.old }
+    ensures first { result ≡ true
+        → a.new ≡ span_between a.old (moved_by b.old a.old.first) a.old.last }
+    ensures second { result ≡ true
+        → b.new ≡ span_between b.old b.old.first (moved_by a.old b.old.last) }
+    ensures short { result ≡ true → new_size a.new ≤ max_total_length }
+    ensures kept { result ≡ false → (a.new ≡ a.old) × (b.new ≡ b.old) }
+{
+    let first = moved(a.first, *b);
+    if first + (a.inserted + a.last) > MAX_TOTAL_LENGTH {
+        return false;
+    }
+    b.last = moved(b.last, *a);
+    a.first = first;
+    true
+}
+
+/// Joins two spans in place where both are active, their ranges lie apart, and no list becomes too
+/// long: nearly every pair is such a one, and takes two sums. It says whether they are; else both
+/// stay as they are.
+pub fn join_apart(a: &mut ActiveSpan, b: &mut ActiveSpan) -> bool
+    requires first { FitsIn max_total_length a.old }
+    requires second { FitsIn max_total_length b.old }
+    ensures joined { result ≡ true → AreJoinedApart a.old b.old a.new b.new }
+    ensures kept { result ≡ false → (a.new ≡ a.old) × (b.new ≡ b.old) }
+{
+    if a.both_attributes(*b) {
+        return false;
+    }
+    if !a.active || !b.active {
+        return false;
+    }
+    if a.ends_before(*b) {
+        return join_before(a, b);
+    }
+    if b.ends_before(*a) {
+        return join_after(a, b);
+    }
+    false
 }

@@ -10,33 +10,33 @@ loop-i-init c = record {
   so_far = row_begun c.args.committed.now.items c.args.mine c.requires.shifted c.requires.follow c.requires.mine;
 }
 
-pub paired-requires-clause-first : goal.paired-requires-clause-first
-paired-requires-clause-first c =
+pub over-requires-clause-shifted : goal.over-requires-clause-shifted
+over-requires-clause-shifted c =
     let old = c.args.committed.now.items in
     let now = c.loop-i.committed.items in
     let same : length now ≡ length old = length-map-same operations now old c.loop-i.invariant.so_far.kept in
     let lt : c.loop-i.i < length now = omega (arith, same, c.loop-i.invariant.size, c.loop-i-test.true) in
-    one_shifted old now c.args.mine c.loop-i.span c.loop-i.i c.index-one.result.now c.loop-i.invariant.so_far lt c.index-one.ensures
+    one_shifted old now c.args.mine c.loop-i.span c.loop-i.i c.index_mut.result.now c.loop-i.invariant.so_far lt c.index_mut.ensures.value
 
-pub paired-requires-clause-second : goal.paired-requires-clause-second
-paired-requires-clause-second c = c.loop-i.invariant.so_far.mine_shifted
+pub over-requires-clause-mine : goal.over-requires-clause-mine
+over-requires-clause-mine c = c.loop-i.invariant.so_far.mine_shifted
 
-pub paired-requires-clause-lengths : goal.paired-requires-clause-lengths
-paired-requires-clause-lengths c =
+pub over-requires-clause-lengths : goal.over-requires-clause-lengths
+over-requires-clause-lengths c =
     let old = c.args.committed.now.items in
     let now = c.loop-i.committed.items in
     let same : length now ≡ length old = length-map-same operations now old c.loop-i.invariant.so_far.kept in
     let lt : c.loop-i.i < length now = omega (arith, same, c.loop-i.invariant.size, c.loop-i-test.true) in
-    one_length old now c.args.mine c.loop-i.span c.loop-i.i c.index-one.result.now c.loop-i.invariant.so_far lt c.index-one.ensures
+    one_length old now c.args.mine c.loop-i.span c.loop-i.i c.index_mut.result.now c.loop-i.invariant.so_far lt c.index_mut.ensures.value
 
-pub returns-in_err-first-clause-refused : goal.returns-in_err-first-clause-refused
-returns-in_err-first-clause-refused c =
+pub returns-in_err-clause-refused : goal.returns-in_err-clause-refused
+returns-in_err-clause-refused c =
     let old = c.args.committed.now.items in
     let now = c.loop-i.committed.items in
     let same : length now ≡ length old = length-map-same operations now old c.loop-i.invariant.so_far.kept in
     let lt : c.loop-i.i < length now = omega (arith, same, c.loop-i.invariant.size, c.loop-i-test.true) in
     let p = err_from_is_err_and c.from_residual.result c.from_residual.ensures.1 in
-    rw (p.1, p.2) (row_refused old now c.args.mine c.loop-i.span c.loop-i.i c.index-one.result.now c.loop-i.invariant.so_far lt c.index-one.ensures c.in_err-first.field-0.0 c.in_err-first.ensures.refused)
+    rw (p.1, p.2) (row_refused old now c.args.mine c.loop-i.span c.loop-i.i c.index_mut.result.now c.loop-i.invariant.so_far lt c.index_mut.ensures.value c.in_err.field-0.0 c.in_err.ensures.refused)
 
 pub loop-i-preserved : goal.loop-i-preserved
 loop-i-preserved c =
@@ -47,8 +47,9 @@ loop-i-preserved c =
     let next : suc c.loop-i.i ≡ c.loop-i.i + 1 = omega arith in
     record {
       size = c.loop-i.invariant.size;
-      so_far = subst (RowSoFar old _ c.args.mine c.in_ok-first.second) next
-          (row_next old now c.args.mine c.loop-i.span c.loop-i.i c.index-one.result.now c.loop-i.invariant.so_far lt c.index-one.ensures c.in_ok-first.first c.in_ok-first.second c.in_ok-first.ensures.paired);
+      so_far = subst (RowSoFar old _ c.args.mine c.in_ok.second) next
+          (subst (λ x. RowSoFar old (slice_set now c.loop-i.i x) c.args.mine c.in_ok.field-0 (suc c.loop-i.i)) (sym c.in_ok.ensures.over.same)
+          (row_next old now c.args.mine c.loop-i.span c.loop-i.i c.index_mut.result.now c.loop-i.invariant.so_far lt c.index_mut.ensures.value c.over.new.one.span c.in_ok.field-0 c.in_ok.ensures.over.paired));
     }
 
 pub returns-clause-row : goal.returns-clause-row
