@@ -50,5 +50,7 @@ pub use fault::RebaseFault;
 pub use join::{conflict, pair};
 pub use join_lists::lists;
 pub use laws::{joined_stay_normal, spans_decide};
+pub use read::span_of;
+pub use span::ActiveSpan;
 pub use under::{EntriesUnder, entries_under, entry_in};
 pub use until::{JoinedEntries, entries_over_list};
