@@ -6,7 +6,8 @@
  *
  * Each method sends one line at once, so lines can be sent ahead, and gives a promise. It is rejected with Refused where the core
  * refuses the command, and with Ended where the program ends before it replies. A method that makes a change gives the length of the
- * list after it. Members are those of docs/FORMAT.md.
+ * list after it. Members are those of docs/FORMAT.md; where the command doesn't have one of them, nothing is sent, and the promise is
+ * rejected with a TypeError.
  */
 export class Core {
   /** Starts the program at this path, else the one that VEMODEL names, else bin/vemodel of the repository round this file. */

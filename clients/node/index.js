@@ -102,11 +102,52 @@ export class Core {
   }
 }
 
-// The commands, each a method that takes its members as one object.
-const COMMANDS = `open html data tree at near refs caret changes text remove split mark unmark wrap convert attr row_in row_out
-  col_in col_out indent outdent grid insert apply batch undo redo select move type erase send serve take revoke`.split(/\s+/);
-for (const name of COMMANDS) {
-  Core.prototype[name] = function (members) {
+// The commands, each a method that takes these members as one object. The program ignores a member that a command doesn't have, so one
+// that is misspelled is refused here.
+const COMMANDS = {
+  open: "page sites",
+  html: "site",
+  data: "from to site",
+  tree: "site",
+  at: "at site",
+  near: "at dir site",
+  refs: "site",
+  caret: "site",
+  changes: "site",
+  text: "at text marks site",
+  remove: "from to site",
+  split: "at depth site",
+  mark: "from to tag attrs site",
+  unmark: "from to tag attrs site",
+  wrap: "from to unwrap_outer wrap_outer unwrap_each wrap_each site",
+  convert: "at kind site",
+  attr: "at name to site",
+  insert: "at html site",
+  apply: "ops site",
+  batch: "cmds site",
+  row_in: "at row site",
+  row_out: "at row site",
+  col_in: "at column site",
+  col_out: "at column site",
+  grid: "at site",
+  indent: "at site",
+  outdent: "at site",
+  undo: "site",
+  redo: "site",
+  select: "anchor focus site",
+  move: "dir by keep site",
+  type: "text site",
+  erase: "dir by site",
+  send: "site",
+  serve: "site",
+  take: "site",
+  revoke: "entry site",
+};
+for (const [name, words] of Object.entries(COMMANDS)) {
+  const known = words.split(" ");
+  Core.prototype[name] = async function (members) {
+    const unknown = Object.keys(members ?? {}).find((it) => !known.includes(it));
+    if (unknown !== undefined) throw new TypeError(`${name} has no member ${unknown}: it has ${known.join(", ")}`);
     return this.ask({ do: name, ...members });
   };
 }

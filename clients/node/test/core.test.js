@@ -125,6 +125,17 @@ describe("commands", () => {
     await assert.rejects(core.text({ at: -1, text: "" }), { words: ["bad_command", "at"], numbers: [] });
   });
 
+  test("a member that a command doesn't have", async () => {
+    await core.open({ page: "<p>ab</p>" });
+    const wrapped = core.wrap({ from: 0, to: 4, wrapOuter: [{ kind: "ul" }] });
+    await assert.rejects(wrapped, { name: "TypeError", message: /^wrap has no member wrapOuter: it has from, to, / });
+    await assert.rejects(core.open({ page: "", site: 0 }), TypeError);
+    await assert.rejects(core.open("<p>ab</p>"), TypeError);
+    await assert.rejects(core.html({ do: "undo" }), TypeError);
+    await assert.rejects(core.undo(), { word: "nothing_to_undo" }); // nothing was sent
+    assert.equal(await core.data({ from: undefined, to: 1 }).then((it) => it.length), 1);
+  });
+
   test("characters are counted, not UTF-16 units", async () => {
     const text = "a\u{1f600}\u2028b";
     assert.equal(await core.open({ page: `<p>${text}</p>` }), [...text].length + 4);
