@@ -1,4 +1,5 @@
 pub mod SpanLemmas
+pub mod ApartLemmas
 pub mod ReadLemmas
 pub mod PlaceLemmas
 pub mod ConflictLemmas

@@ -1,5 +1,5 @@
 // Spans: all that joining asks of a transaction.
-ghost use Rattle.std.specs.Prelude.{◌≡◌, ◌≤◌, ◌<◌, ◌+◌, ◌^◌, ◌×◌, ◌&&◌, true, false, nat_le};
+ghost use Rattle.std.specs.Prelude.{◌≡◌, ◌≤◌, ◌<◌, ◌+◌, ◌^◌, ◌&&◌, true, false, nat_le};
 ghost use Rattle.ve_base.specs.Limits.{max_total_length};
 ghost use Rattle.ve_rebase.specs.Pair.{FitsIn};
 ghost use Rattle.ve_rebase.specs.Span.{old_size, new_size, end, meet, span_between, inert, joined_first, joined_second, moved_by, AreJoinedApart};
