@@ -1,5 +1,5 @@
 -- Pieces that stand in no other piece, one item after the other.
-use Rattle.std.proofs.Common.{◌≡◌, ◌≤◌, ℕ, zero, suc, ◌+◌, Bool, true, false, not, ◌&&◌, ◌||◌, if◌then◌else◌, List, [], ◌∷◌, ◌++◌, drop, None, All, refl, sym, ap, ◌∙◌, subst, arith}
+use Rattle.std.proofs.Common.{◌≡◌, ◌≤◌, ℕ, zero, suc, ◌+◌, ◌-◌, Bool, true, false, not, ◌&&◌, ◌||◌, List, [], ◌∷◌, ◌++◌, drop, None, All, refl, sym, ap, ◌∙◌, subst, arith}
 use Rattle.std.specs.List.{list_all, list_any}
 use Rattle.ve_base.specs.declared.value.Value.{Value}
 use Rattle.model_items.specs.declared.item.Item.{Item}
@@ -11,12 +11,12 @@ use Rattle.std.proofs.lemmas.List.{map-append}
 use Rattle.std.proofs.lemmas.List.Elements.{All-nil, All-cons, All-append}
 use Rattle.ve_kinds.specs.declared.kind.Kind.{Kind}
 use Rattle.ve_kinds.specs.declared.kind.Kind.TheVariants.{P}
-use Rattle.ve_kinds.specs.Table.{is_content_branch}
+use Rattle.ve_kinds.specs.Table.{may_hold}
 use Rattle.model_edit.specs.Brackets.{opening_of, closing_of}
-use Rattle.model_edit.specs.Insert.{outer_items, is_content_item, is_content_pieces, is_mixed, in_paragraph}
+use Rattle.model_edit.specs.Insert.{outer_items, is_content_item, is_content_pieces, is_mixed, may_hold_item, may_hold_pieces}
 use Rattle.ve_build_insert.specs.declared.pieces.Question.{Question}
 use Rattle.ve_build_insert.specs.declared.pieces.Question.TheVariants.{IsContent, IsBlock}
-use Rattle.ve_build_insert.specs.Placed.{item_answer, depth_after, passes_outer}
+use Rattle.ve_build_insert.specs.Placed.{item_answer, depth_after, framed, passes_outer}
 
 outer_first : (q : Question) (depth : ℕ) (x : PlainItem) (rest : List PlainItem) →
     list_all (item_answer q) (outer_items depth (x ∷ rest)) ≡ (passes_outer q depth x && list_all (item_answer q) (outer_items (depth_after depth x) rest))
@@ -65,13 +65,21 @@ mixed_is items content blocks c b =
     ap (λ x. x && not (is_content_pieces items)) (any_unless_none is_content_item (outer_items 0 items) ∙ ap not (sym b))
     ∙ ap (λ x. not blocks && not x) (sym c)
 
--- the pieces as they are to stand
-pub placed_as_they_are : (parent : Kind) (items : List PlainItem) → (is_content_pieces items && not (is_content_branch parent)) ≡ false → in_paragraph parent items ≡ items
-placed_as_they_are parent items fails = ap (λ b. if b then opening_of P [] ∷ items ++ closing_of P ∷ [] else items) fails
+-- a closing after the pieces is no outer item
+outer_closed : (depth : ℕ) (kind : Kind) (items : List PlainItem) → outer_items depth (items ++ closing_of kind ∷ []) ≡ outer_items depth items
+outer_closed zero kind [] = refl
+outer_closed (suc depth) kind [] = refl
+outer_closed zero kind (Char c marks ∷ items) = ap (λ l. Char c marks ∷ l) (outer_closed zero kind items)
+outer_closed (suc depth) kind (Char c marks ∷ items) = outer_closed (suc depth) kind items
+outer_closed zero kind (Opening k head marks pre origin generated ∷ items) = ap (λ l. Opening k head marks pre origin generated ∷ l) (outer_closed 1 kind items)
+outer_closed (suc depth) kind (Opening k head marks pre origin generated ∷ items) = outer_closed (suc (suc depth)) kind items
+outer_closed zero kind (Closing k pre ∷ items) = outer_closed (zero - 1) kind items
+outer_closed (suc depth) kind (Closing k pre ∷ items) = outer_closed (suc depth - 1) kind items
 
-pub placed_in_paragraph : (parent : Kind) (items : List PlainItem) → (is_content_pieces items && not (is_content_branch parent)) ≡ true →
-    in_paragraph parent items ≡ opening_of P [] ∷ items ++ closing_of P ∷ []
-placed_in_paragraph parent items holds = ap (λ b. if b then opening_of P [] ∷ items ++ closing_of P ∷ [] else items) holds
+-- a paragraph of pieces is held where a paragraph is, and so is what a closing among them, which
+-- closes the paragraph, leaves outside it
+pub held_framed : (parent : Kind) (items : List PlainItem) → may_hold_pieces parent (framed true items) ≡ (may_hold parent P && list_all (may_hold_item parent) (outer_items 1 items))
+held_framed parent items = ap (λ l. may_hold parent P && list_all (may_hold_item parent) l) (outer_closed 1 P items)
 
 -- one item opens one piece at most
 pub depth_rises : (depth : ℕ) (x : PlainItem) (next : ℕ) → next ≡ depth_after depth x → next ≤ depth + 1

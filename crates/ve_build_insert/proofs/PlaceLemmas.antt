@@ -110,11 +110,11 @@ module _ (stack : List Kind) (pieces : List PlainItem) where
   none_mixed h =
       ap (λ b. if b then None else (let items = in_paragraph (top stack) pieces in option_map (λ levels. (items, levels)) (levels_up items stack))) h
 
-  pub placed_by : (items slice : List PlainItem) (kind : Kind) (o : Option ℕ) → is_mixed pieces ≡ false → kind ≡ top stack → items ≡ in_paragraph kind pieces → slice ≡ items →
-      o ≡ levels_up slice stack → option_map (λ levels. (items, levels)) o ≡ placement stack pieces
-  placed_by items slice kind o h k is lent found =
+  pub placed_by : (items : List PlainItem) (kind : Kind) (o : Option ℕ) → is_mixed pieces ≡ false → kind ≡ top stack → items ≡ in_paragraph kind pieces →
+      o ≡ levels_up items stack → option_map (λ levels. (items, levels)) o ≡ placement stack pieces
+  placed_by items kind o h k is found =
       let same : items ≡ in_paragraph (top stack) pieces = is ∙ ap (λ k. in_paragraph k pieces) k in
-      ap (option_map (λ levels. (items, levels))) (found ∙ ap (λ l. levels_up l stack) lent)
+      ap (option_map (λ levels. (items, levels))) found
       ∙ ap (λ (items : List PlainItem). option_map (λ levels. (items, levels)) (levels_up items stack)) same
       ∙ sym (ap (λ b. if b then None else (let items = in_paragraph (top stack) pieces in option_map (λ levels. (items, levels)) (levels_up items stack))) h)
 

@@ -1,5 +1,5 @@
 -- How the calls answer, by what they test in turn.
-use Rattle.std.proofs.Common.{◌≡◌, ◌≤◌, ◌<◌, ℕ, zero, suc, ◌+◌, ◌==◌, Bool, true, false, not, ◌||◌, if◌then◌else◌, Option, Some, None, option_map, Result, Ok, Err, List, [], ◌∷◌, length, take, drop, slice_get, refl, sym, ap, ◌∙◌, arith, eqb-true}
+use Rattle.std.proofs.Common.{◌≡◌, ◌≤◌, ◌<◌, ℕ, zero, suc, ◌+◌, ◌==◌, Bool, true, false, not, ◌||◌, if◌then◌else◌, Option, Some, None, option_map, Result, Ok, Err, is_ok, IsOk, IfErr, List, [], ◌∷◌, length, take, drop, slice_get, refl, sym, ap, ◌∙◌, arith, eqb-true}
 use Rattle.std.specs.Prelude.{nat_lt}
 use Rattle.std.specs.List.{list_any}
 use Rattle.std.proofs.lemmas.Bool.{false_from_ne_true}
@@ -159,6 +159,15 @@ depth_by stack depth level b some room so_far is = sym (depth_is stack depth som
 pub insertion_none : (items : List PlainItem) (at : ℕ) (pieces : List PlainItem) (stack : List Kind) → is_bad_offset items at ≡ false → stack_at items at ≡ stack → None ≡ placement stack pieces →
     insertion items at pieces ≡ Err (NoPlace at)
 insertion_none items at pieces stack h s is = insertion_by items at pieces stack None h s is
+
+pub insertion_given : (items : List PlainItem) (at : ℕ) (pieces : List PlainItem) (stack : List Kind) (found : List PlainItem × ℕ) → is_bad_offset items at ≡ false → stack_at items at ≡ stack →
+    Some found ≡ placement stack pieces → IsOk (insertion items at pieces)
+insertion_given items at pieces stack found h s is = ap is_ok (insertion_by items at pieces stack (Some found) h s is)
+
+-- what holds anyway holds of an error
+pub if_err : {T E : Type 0} {Q : E → Type 0} (r : Result T E) → ((e : E) → Q e) → IfErr r Q
+if_err (Ok x) h = tt
+if_err (Err e) h = h e
 
 pub insertion_is : (items : List PlainItem) (at : ℕ) (pieces : List PlainItem) (stack : List Kind) (placed lent : List PlainItem) (levels : ℕ) (t : Transaction) →
     is_bad_offset items at ≡ false → stack_at items at ≡ stack → Some (placed, levels) ≡ placement stack pieces → lent ≡ placed →

@@ -1,12 +1,14 @@
 -- Conditions on pieces, and where they may stand.
-use Rattle.std.specs.Prelude.{◌≡◌, ◌≤◌, ◌<◌, ℕ, zero, suc, ◌-◌, Bool, true, false, not, if◌then◌else◌, List, length, All, Option, None, option_map, Result}
+use Rattle.std.specs.Prelude.{◌≡◌, ◌<◌, ℕ, zero, suc, ◌-◌, Bool, true, false, not, if◌then◌else◌, List, [], ◌∷◌, ◌++◌, length, All, Option, None, option_map, Result}
 use Rattle.ve_base.specs.declared.value.Value.{Value}
 use Rattle.ve_kinds.specs.declared.kind.Kind.{Kind}
+use Rattle.ve_kinds.specs.declared.kind.Kind.TheVariants.{P}
 use Rattle.model_items.specs.declared.item.Item.{Item}
 use Rattle.model_items.specs.declared.plain_item.PlainItem.{PlainItem}
 use Rattle.model_items.specs.declared.plain_item.PlainItem.TheVariants.{Char, Opening, Closing}
 use Rattle.model_items.specs.Law.{State, top}
 use Rattle.model_items.specs.Plain.{plain_list, CitesWell}
+use Rattle.model_edit.specs.Brackets.{opening_of, closing_of}
 use Rattle.model_edit.specs.Insert.{is_content_item, may_hold_item, is_mixed, in_paragraph, levels_up, is_bad_offset, insertion}
 use Rattle.model_change.specs.Transaction.{Transaction}
 use Rattle.model_edit.specs.Causes.{BuildCause}
@@ -16,7 +18,7 @@ use Rattle.ve_offsets.specs.States.{IsStateAt}
 use Rattle.ve_store.specs.Following.{Following, together}
 use Rattle.ve_build_insert.specs.declared.pieces.Question.{Question}
 use Rattle.ve_build_insert.specs.declared.pieces.Question.TheVariants.{IsContent, IsBlock, IsHeldBy}
-use Rattle.ve_build_insert.specs.declared.place.Placed.{Placed}
+use Rattle.ve_build_insert.specs.declared.place.Place.{Place}
 
 -- the answer that an item gives
 abbrev pub item_answer : Question → PlainItem → Bool
@@ -37,9 +39,13 @@ passes_outer question zero (Closing kind pre) = true
 passes_outer question zero (Char c marks) = item_answer question (Char c marks)
 passes_outer question zero (Opening kind head marks pre origin generated) = item_answer question (Opening kind head marks pre origin generated)
 
--- the items are the pieces, content among them put into a paragraph, over every list of values
-abbrev pub IsPlaced : Kind → List Item → List Item → Type 0
-IsPlaced parent pieces items = (values : List Value) → plain_list values items ≡ in_paragraph parent (plain_list values pieces)
+-- the pieces, in a paragraph where they are to stand in one
+abbrev pub framed : Bool → List PlainItem → List PlainItem
+framed paragraph pieces = if paragraph then opening_of P [] ∷ pieces ++ closing_of P ∷ [] else pieces
+
+-- the items are these, over every list of values
+abbrev pub IsPlaced : Bool → List Item → List Item → Type 0
+IsPlaced paragraph pieces items = (values : List Value) → plain_list values items ≡ framed paragraph (plain_list values pieces)
 
 -- and they cite nothing but what the pieces do
 abbrev pub CitesAsPieces : List Item → List Item → Type 0
@@ -58,17 +64,13 @@ placement stack pieces =
     else (let items = in_paragraph (top stack) pieces in
     option_map (λ levels. (items, levels)) (levels_up items stack))
 
-abbrev pub placed_plain : List Value → Placed → List PlainItem × ℕ
-placed_plain values placed = (plain_list values placed.items, placed.levels)
+-- the pieces at their place
+abbrev pub placed_at : List PlainItem → Place → List PlainItem × ℕ
+placed_at pieces place = (framed place.paragraph pieces, place.levels)
 
--- They are the placement, over every list of values.
-abbrev pub ArePlaced : List Kind → List Item → Option Placed → Type 0
-ArePlaced stack pieces found = (values : List Value) → option_map (placed_plain values) found ≡ placement stack (plain_list values pieces)
-
--- They cite nothing but what the pieces do, and leave no more nodes than are open.
-pub record HoldsPlaced (pieces : List Item) (stack : List Kind) (placed : Placed) : Type 0 where
-  pub cites : CitesAsPieces pieces placed.items
-  pub within : placed.levels ≤ length stack
+-- That is the placement, over every list of values.
+abbrev pub ArePlaced : List Kind → List Item → Option Place → Type 0
+ArePlaced stack pieces found = (values : List Value) → option_map (placed_at (plain_list values pieces)) found ≡ placement stack (plain_list values pieces)
 
 -- the meaning of inserting pieces into a page, where they are read with what follows its store
 abbrev pub insertion_meant : Doc → Following → ℕ → List Item → Result Transaction BuildCause

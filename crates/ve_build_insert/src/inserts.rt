@@ -1,5 +1,5 @@
 // The insertion of pieces.
-ghost use Rattle.std.specs.Prelude.{◌≡◌, Ok, IfOk, IfErr, All, length};
+ghost use Rattle.std.specs.Prelude.{◌≡◌, Ok, IsOk, IfOk, IfErr, All, length};
 ghost use Rattle.model_items.specs.Plain.{CitesWell};
 ghost use Rattle.ve_offsets.specs.Docs.{IsDoc};
 ghost use Rattle.ve_store.specs.Following.{Grows, together};
@@ -9,7 +9,8 @@ ghost use Rattle.ve_edits.specs.Filled.{BringsInserted};
 ghost use Rattle.ve_edits.specs.Refused.{IsRefusal};
 ghost use Rattle.ve_build_insert.specs.Placed.{insertion_meant};
 
-use crate::place::{open_at, place_pieces};
+use crate::pieces::in_paragraph;
+use crate::place::{open_at, place_of};
 use crate::reopen::put;
 use model_edit::BuildFault;
 use std::alloc::Global;
@@ -26,7 +27,8 @@ use ve_tx::Transaction;
 ///
 /// `BadOffset` comes exactly where the offset is the list's length or past it, or inside a leaf.
 /// Then `NoPlace` comes where no open node may hold the pieces, or where they are content and
-/// blocks side by side. After a refusal `new` may hold further values.
+/// blocks side by side. Want of memory comes only where neither does. After a refusal `new` may
+/// hold further values.
 pub fn insertion(
     alloc: Global,
     doc: Doc<'_>,
@@ -46,17 +48,19 @@ pub fn insertion(
     ensures grows { Grows new.old new.new }
     ensures refused { IfErr result (λ fault.
         IsRefusal fault (insertion_meant doc.entry new.old at pieces.now)) }
+    ensures memory { IfErr result (λ fault.
+        fault ≡ BuildFault.Memory → IsOk (insertion_meant doc.entry new.old at pieces.now)) }
 {
     let Some(state) = open_at(doc, at) else {
         return Err(BuildFault::BadOffset { at });
     };
-    let Ok(found) = place_pieces(alloc, &state, pieces) else {
-        return Err(BuildFault::Memory);
-    };
-    let Some(placed) = found else {
+    let Some(place) = place_of(&state, pieces) else {
         return Err(BuildFault::NoPlace { at });
     };
-    match put(alloc, doc, at, placed.levels, placed.items.as_slice(), new) {
+    let Ok(items) = in_paragraph(alloc, place.paragraph, pieces) else {
+        return Err(BuildFault::Memory);
+    };
+    match put(alloc, doc, at, place.levels, items.as_slice(), new) {
         Ok(tx) => Ok(tx),
         Err(Memory) => Err(BuildFault::Memory),
     }

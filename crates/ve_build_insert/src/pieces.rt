@@ -1,10 +1,10 @@
 // Sorts of pieces: content, blocks, or both side by side, and what may hold them.
-ghost use Rattle.std.specs.Prelude.{◌≡◌, ◌+◌, ◌<◌, ◌^◌, ◌&&◌, not, IfOk};
+ghost use Rattle.std.specs.Prelude.{◌≡◌, ◌+◌, ◌≤◌, ◌<◌, ◌^◌, ◌&&◌, not, IfOk};
 ghost use Rattle.std.specs.List.{list_all};
 ghost use Rattle.ve_kinds.specs.Table as table;
 ghost use Rattle.model_items.specs.Plain.{plain, plain_list};
 ghost use Rattle.model_edit.specs.Insert as model;
-ghost use Rattle.ve_build_insert.specs.Placed.{item_answer, depth_after, passes_outer, CitesAsPieces, IsPlaced};
+ghost use Rattle.ve_build_insert.specs.Placed.{item_answer, depth_after, framed, passes_outer, CitesAsPieces, IsPlaced};
 
 use std::alloc::Global;
 use ve_base::Memory;
@@ -66,13 +66,15 @@ fn opened(depth: usize, item: Item) -> usize
     }
 }
 
-/// Whether each piece that stands in no other is so.
-pub fn all_outer(pieces: &[Item], question: Question) -> bool
+/// Whether each piece that stands in no other is so. `round` says in how many others the first one
+/// stands.
+fn all_outer(pieces: &[Item], round: usize, question: Question) -> bool
+    requires { round ≤ 1 }
     ensures { (values : _)
         → result
-        ≡ list_all (item_answer question) (model.outer_items 0 (plain_list values pieces.now)) }
+        ≡ list_all (item_answer question) (model.outer_items round (plain_list values pieces.now)) }
 {
-    let mut depth: usize = 0;
+    let mut depth = round;
     for item in pieces {
         if !passes(question, depth, *item) {
             return false;
@@ -86,13 +88,13 @@ pub fn all_outer(pieces: &[Item], question: Question) -> bool
 pub fn is_mixed(pieces: &[Item]) -> bool
     ensures { (values : _) → result ≡ model.is_mixed (plain_list values pieces.now) }
 {
-    let content = all_outer(pieces, Question::IsContent);
-    let blocks = all_outer(pieces, Question::IsBlock);
+    let content = all_outer(pieces, 0, Question::IsContent);
+    let blocks = all_outer(pieces, 0, Question::IsBlock);
     !blocks && !content
 }
 
 /// Whether the pieces are content that a node of the kind doesn't hold.
-fn wants_paragraph(parent: Kind, pieces: &[Item]) -> bool
+pub fn wants_paragraph(parent: Kind, pieces: &[Item]) -> bool
     ensures { (values : _)
         → result
         ≡ (model.is_content_pieces (plain_list values pieces.now)
@@ -101,16 +103,30 @@ fn wants_paragraph(parent: Kind, pieces: &[Item]) -> bool
     if is_content_branch(parent) {
         return false;
     }
-    all_outer(pieces, Question::IsContent)
+    all_outer(pieces, 0, Question::IsContent)
 }
 
-/// The pieces; content in a paragraph, unless it is to stand in a branch of content.
-pub fn in_paragraph(alloc: Global, parent: Kind, pieces: &[Item]) -> Result<Items, Memory>
-    ensures means { IfOk result (IsPlaced parent pieces.now) }
+/// Whether a node of the kind may hold the pieces, or the paragraph that they are to stand in.
+pub fn may_hold_pieces(parent: Kind, pieces: &[Item], paragraph: bool) -> bool
+    ensures { (values : _)
+        → result ≡ model.may_hold_pieces parent (framed paragraph (plain_list values pieces.now)) }
+{
+    if !paragraph {
+        return all_outer(pieces, 0, Question::IsHeldBy(parent));
+    }
+    if !may_hold(parent, Kind::P) {
+        return false;
+    }
+    all_outer(pieces, 1, Question::IsHeldBy(parent))
+}
+
+/// The pieces, in a paragraph where they are to stand in one.
+pub fn in_paragraph(alloc: Global, paragraph: bool, pieces: &[Item]) -> Result<Items, Memory>
+    ensures means { IfOk result (IsPlaced paragraph pieces.now) }
     ensures cites { IfOk result (CitesAsPieces pieces.now) }
 {
     let mut placed = Items::new(alloc);
-    if !wants_paragraph(parent, pieces) {
+    if !paragraph {
         placed.extend(pieces)?;
         return Ok(placed);
     }

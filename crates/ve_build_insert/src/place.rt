@@ -1,24 +1,23 @@
 // Where something may be put: the nodes that are open at an offset, and how many of them pieces
 // have to leave.
-ghost use Rattle.std.specs.Prelude.{◌≡◌, ◌≤◌, true, false, None, IfOk, IfSome, length};
+ghost use Rattle.std.specs.Prelude.{◌≡◌, ◌≤◌, true, false, None, IfSome, length};
 ghost use Rattle.model_items.specs.Law.{top};
 ghost use Rattle.model_items.specs.Plain.{plain_list};
 ghost use Rattle.model_edit.specs.Insert as model;
 ghost use Rattle.ve_offsets.specs.Docs.{IsDoc};
-ghost use Rattle.ve_build_insert.specs.Placed.{ArePlaced, IsOpenAt, HoldsPlaced};
+ghost use Rattle.ve_build_insert.specs.Placed.{framed, ArePlaced, IsOpenAt};
 
-use crate::pieces::{Question, all_outer, in_paragraph, is_mixed};
-use std::alloc::Global;
-use ve_base::Memory;
+use crate::pieces::{is_mixed, may_hold_pieces, wants_paragraph};
 use ve_edits::is_internal;
-use ve_items::{Item, Items};
+use ve_items::Item;
 use ve_kinds::{Kind, is_leaf};
 use ve_offsets::{Doc, State, state_at};
 
-/// Pieces as they are to stand, and how many of the open nodes they leave.
-#[derive(Drop)]
-pub struct Placed {
-    pub items: Items,
+/// Where pieces are to stand: whether in a paragraph of their own, and how many of the open nodes
+/// they leave.
+#[derive(Clone, Copy)]
+pub struct Place {
+    pub paragraph: bool,
     pub levels: usize,
 }
 
@@ -51,41 +50,54 @@ pub fn open_at(doc: Doc<'_>, at: usize) -> Option<State>
     Some(state)
 }
 
-/// How far out the innermost kind stands that may hold the pieces, the root past the outermost. No
-/// internal list or item is left.
-fn levels_up(state: &State, pieces: &[Item]) -> Option<usize>
+/// Whether nothing can be put at an offset.
+pub fn is_bad_offset(doc: Doc<'_>, at: usize) -> bool
+    requires doc { IsDoc doc }
+    ensures { (values : _)
+        → result ≡ model.is_bad_offset (plain_list values doc.entry.list.now.items) at }
+{
+    match open_at(doc, at) {
+        Some(_) => false,
+        None => true,
+    }
+}
+
+/// How far out the innermost kind stands that may hold the pieces, or the paragraph that they are
+/// to stand in, the root past the outermost. No internal list or item is left.
+fn levels_up(state: &State, pieces: &[Item], paragraph: bool) -> Option<usize>
     ensures means { (values : _)
-        → result ≡ model.levels_up (plain_list values pieces.now) state.now.stack }
+        → result
+        ≡ model.levels_up (framed paragraph (plain_list values pieces.now)) state.now.stack }
     ensures within { IfSome result (λ levels. levels ≤ length state.now.stack) }
 {
     let depth = state.depth();
     for level in 0..depth {
         let kind = state.kind(level);
-        if all_outer(pieces, Question::IsHeldBy(kind)) {
+        if may_hold_pieces(kind, pieces, paragraph) {
             return Some(level);
         }
         if is_internal(kind) {
             return None;
         }
     }
-    if all_outer(pieces, Question::IsHeldBy(Kind::Root)) {
+    if may_hold_pieces(Kind::Root, pieces, paragraph) {
         return Some(depth);
     }
     None
 }
 
-/// The pieces as they are to stand where these kinds are open; none where no open kind may hold
-/// them, or where they are content and blocks side by side.
-pub fn place_pieces(alloc: Global, state: &State, pieces: &[Item]) -> Result<Option<Placed>, Memory>
-    ensures means { IfOk result (ArePlaced state.now.stack pieces.now) }
-    ensures holds { IfOk result (λ found. IfSome found (HoldsPlaced pieces.now state.now.stack)) }
+/// Where pieces are to stand where these kinds are open; none where no open kind may hold them, or
+/// where they are content and blocks side by side.
+pub fn place_of(state: &State, pieces: &[Item]) -> Option<Place>
+    ensures means { ArePlaced state.now.stack pieces.now result }
+    ensures within { IfSome result (λ place. place.levels ≤ length state.now.stack) }
 {
     if is_mixed(pieces) {
-        return Ok(None);
+        return None;
     }
-    let items = in_paragraph(alloc, innermost(state), pieces)?;
-    let Some(levels) = levels_up(state, items.as_slice()) else {
-        return Ok(None);
+    let paragraph = wants_paragraph(innermost(state), pieces);
+    let Some(levels) = levels_up(state, pieces, paragraph) else {
+        return None;
     };
-    Ok(Some(Placed { items, levels }))
+    Some(Place { paragraph, levels })
 }

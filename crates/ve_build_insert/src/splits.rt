@@ -1,5 +1,5 @@
 // The split of open nodes.
-ghost use Rattle.std.specs.Prelude.{◌≡◌, ◌≤◌, false, Ok, IfOk, IfErr, All, length};
+ghost use Rattle.std.specs.Prelude.{◌≡◌, ◌≤◌, false, Ok, IsOk, IfOk, IfErr, All, length};
 ghost use Rattle.model_items.specs.Plain.{CitesWell};
 ghost use Rattle.model_edit.specs.Insert as model;
 ghost use Rattle.ve_offsets.specs.Docs.{IsDoc, page_items};
@@ -43,7 +43,8 @@ fn is_bad_depth(state: &State, depth: usize) -> bool
 /// `BadOffset` comes exactly where the offset is the list's length or past it, or inside a leaf.
 /// Then `NotContent` comes where the innermost open node is no branch of content. Last, `BadDepth`
 /// comes where the depth is 0 or more nodes than are open, or reaches an internal list or item.
-/// After a refusal `new` may hold further values.
+/// Want of memory comes only where none of them does. After a refusal `new` may hold further
+/// values.
 pub fn split(
     alloc: Global,
     doc: Doc<'_>,
@@ -62,6 +63,8 @@ pub fn split(
     ensures grows { Grows new.old new.new }
     ensures refused { IfErr result (λ fault.
         IsRefusal fault (model.split (page_items doc.entry) at depth)) }
+    ensures memory { IfErr result (λ fault.
+        fault ≡ BuildFault.Memory → IsOk (model.split (page_items doc.entry) at depth)) }
 {
     let Some(state) = open_at(doc, at) else {
         return Err(BuildFault::BadOffset { at });

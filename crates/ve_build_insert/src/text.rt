@@ -1,8 +1,9 @@
 // The insertion of text.
-ghost use Rattle.std.specs.Prelude.{◌≡◌, ◌<◌, Ok, IfOk, IfErr, All, length};
+ghost use Rattle.std.specs.Prelude.{◌≡◌, ◌<◌, false, Ok, IfOk, IfErr, All, length};
 ghost use Rattle.std.specs.Str.{chars};
 ghost use Rattle.model_items.specs.Plain.{CitesWell};
-ghost use Rattle.ve_offsets.specs.Docs.{IsDoc};
+ghost use Rattle.model_edit.specs.Insert as model;
+ghost use Rattle.ve_offsets.specs.Docs.{IsDoc, page_items};
 ghost use Rattle.ve_store.specs.Following.{Grows, together};
 ghost use Rattle.ve_tx.specs.Cites.{TxCites};
 ghost use Rattle.ve_tx.specs.Operation.{by_value};
@@ -11,6 +12,7 @@ ghost use Rattle.ve_edits.specs.Refused.{IsRefusal};
 ghost use Rattle.ve_build_insert.specs.Typed.{plain_text_meant, text_meant, AreLetters, AreMarksBefore, LettersCite, MarksAreCited};
 
 use crate::inserts::insertion;
+use crate::place::is_bad_offset;
 use model_edit::BuildFault;
 use std::alloc::Global;
 use ve_base::{Memory, ValueId};
@@ -67,6 +69,7 @@ fn letters(alloc: Global, marks: Option<ValueId>, text: &str) -> Result<Items, M
 
 /// The transaction that puts a text at an offset, with the marks of its left neighbour: of the
 /// character that ends there, or of the inline leaf that does. It is refused as `insertion` is.
+/// Want of memory never comes in the place of `BadOffset`.
 pub fn text_insertion(
     alloc: Global,
     doc: Doc<'_>,
@@ -84,7 +87,12 @@ pub fn text_insertion(
     ensures values { IfOk result (BringsInserted doc.entry.store.now new.old new.new) }
     ensures grows { Grows new.old new.new }
     ensures refused { IfErr result (λ fault. IsRefusal fault (text_meant doc.entry at text.now)) }
+    ensures memory { IfErr result (λ fault.
+        fault ≡ BuildFault.Memory → model.is_bad_offset (page_items doc.entry) at ≡ false) }
 {
+    if is_bad_offset(doc, at) {
+        return Err(BuildFault::BadOffset { at });
+    }
     let Ok(pieces) = letters(alloc, marks_before(doc, at), text) else {
         return Err(BuildFault::Memory);
     };
@@ -92,6 +100,7 @@ pub fn text_insertion(
 }
 
 /// The transaction that puts a text without marks at an offset. It is refused as `insertion` is.
+/// Want of memory never comes in the place of `BadOffset`.
 pub fn plain_text_insertion(
     alloc: Global,
     doc: Doc<'_>,
@@ -110,7 +119,12 @@ pub fn plain_text_insertion(
     ensures grows { Grows new.old new.new }
     ensures refused { IfErr result (λ fault.
         IsRefusal fault (plain_text_meant doc.entry at text.now)) }
+    ensures memory { IfErr result (λ fault.
+        fault ≡ BuildFault.Memory → model.is_bad_offset (page_items doc.entry) at ≡ false) }
 {
+    if is_bad_offset(doc, at) {
+        return Err(BuildFault::BadOffset { at });
+    }
     let Ok(pieces) = letters(alloc, None, text) else {
         return Err(BuildFault::Memory);
     };

@@ -1,5 +1,5 @@
 // The removal of a range.
-ghost use Rattle.std.specs.Prelude.{◌≡◌, ◌≤◌, ◌<◌, Some, None, Ok, IfOk, IfErr, All, length};
+ghost use Rattle.std.specs.Prelude.{◌≡◌, ◌≤◌, ◌<◌, Some, None, Ok, IsOk, IfOk, IfErr, All, length};
 ghost use Rattle.model_items.specs.Plain.{plain_list, CitesWell};
 ghost use Rattle.model_items.specs.Offsets as offsets;
 ghost use Rattle.model_edit.specs.Remove.{removal_edits};
@@ -126,7 +126,7 @@ fn removed(alloc: Global, doc: Doc<'_>, from: usize, to: usize) -> Result<Transa
 /// it, and nothing else is unmatched, the whole range goes. So the second branch is joined to the
 /// first. In every other range each matched item goes. `BadRange` comes exactly where the range is
 /// none of the list, has an end inside a leaf, or holds a bracket of the internal list or of one of
-/// its items.
+/// its items. Want of memory comes only where the range may be removed.
 pub fn removal(
     alloc: Global,
     doc: Doc<'_>,
@@ -140,6 +140,8 @@ pub fn removal(
     ensures cites { IfOk result (λ tx. TxCites doc.entry.store.now tx) }
     ensures refused { IfErr result (λ fault.
         IsRefusal fault (model.removal (page_items doc.entry) from to)) }
+    ensures memory { IfErr result (λ fault.
+        fault ≡ BuildFault.Memory → IsOk (model.removal (page_items doc.entry) from to)) }
 {
     if is_bad_span(doc, from, to) {
         return Err(BuildFault::BadRange { from, to });

@@ -1,6 +1,8 @@
 // One attribute of an element set or taken off.
-ghost use Rattle.std.specs.Prelude.{◌≡◌, ◌<◌, true, Ok, IfOk, IfErr, All, length};
+ghost use Rattle.std.specs.Prelude.{◌≡◌, ◌↔◌, ◌<◌, true, Ok, IsTrue, IsOk, IfOk, IfErr, All, length};
+ghost use Rattle.std.specs.Str.{chars};
 ghost use Rattle.model_items.specs.Plain.{plain, plain_list, CitesWell};
+ghost use Rattle.model_change.specs.Attributes as model;
 ghost use Rattle.model_edit.specs.Convert.{opens_kind};
 ghost use Rattle.ve_kinds.specs.Table as table;
 ghost use Rattle.ve_offsets.specs.Docs.{IsDoc, page_items};
@@ -16,7 +18,7 @@ use ve_edits::present_value;
 use ve_items::Item;
 use ve_kinds::is_element;
 use ve_offsets::Doc;
-use ve_tx::{Op, OpList, Transaction, is_reserved};
+use ve_tx::{Op, OpList, Transaction};
 
 /// Whether the item opens an element.
 fn opens_element(item: Item) -> bool
@@ -110,12 +112,26 @@ fn set(
     Ok(tx)
 }
 
+/// Whether a name has the characters of a word.
+fn spells(name: &str, word: &str) -> bool
+    ensures { IsTrue result ↔ (chars name.now ≡ chars word.now) }
+{
+    name == word
+}
+
+/// Whether the name says what a node is, so that it is not set like others.
+fn is_reserved(name: &str) -> bool
+    ensures { result ≡ model.is_reserved (chars name.now) }
+{
+    spells(name, "about") || spells(name, "typeof")
+}
+
 /// The transaction that sets an attribute of the element that begins at a position to a value, or
 /// takes it off where that is `None`. Where it takes one off, it keeps the attribute's position, so
 /// that the inverse puts it back there.
 ///
 /// `NotOpening` comes exactly where no element begins at the position; then `BadAttr` where the
-/// name is `about` or `typeof`.
+/// name is `about` or `typeof`. Want of memory comes only where neither does.
 pub fn attribute(
     alloc: Global,
     doc: Doc<'_>,
@@ -131,16 +147,19 @@ pub fn attribute(
     ensures cites { IfOk result (TxCites doc.entry.store.now) }
     ensures refused { IfErr result (λ fault.
         IsRefusal fault (attribute_spelled (page_items doc.entry) at name.now to.entry)) }
+    ensures memory { IfErr result (λ fault.
+        fault ≡ BuildFault.Memory
+        → IsOk (attribute_spelled (page_items doc.entry) at name.now to.entry)) }
 {
     if !begins_element(doc, at) {
         return Err(BuildFault::NotOpening { at });
     }
+    if is_reserved(name) {
+        return Err(BuildFault::BadAttr { at });
+    }
     let Ok(name) = Text::from_str(alloc, name) else {
         return Err(BuildFault::Memory);
     };
-    if is_reserved(&name) {
-        return Err(BuildFault::BadAttr { at });
-    }
     match set(alloc, doc, at, name, to) {
         Ok(tx) => Ok(tx),
         Err(Memory) => Err(BuildFault::Memory),

@@ -1,5 +1,5 @@
 // A branch of content given another kind.
-ghost use Rattle.std.specs.Prelude.{◌≡◌, ◌<◌, ◌&&◌, true, Ok, IfOk, IfErr, All, length};
+ghost use Rattle.std.specs.Prelude.{◌≡◌, ◌<◌, ◌&&◌, true, Ok, IsOk, IfOk, IfErr, All, length};
 ghost use Rattle.model_items.specs.Plain.{plain, plain_list, CitesWell};
 ghost use Rattle.model_edit.specs.Convert.{opens_kind};
 ghost use Rattle.model_edit.specs.Convert as model;
@@ -94,7 +94,7 @@ fn converted(alloc: Global, doc: Doc<'_>, at: usize, kind: Kind) -> Result<Trans
 
 /// The transaction that gives a branch of content another kind of content; it keeps its attributes
 /// and the whitespace before it. `NotBranch` comes exactly where no branch of content begins at the
-/// position, or the kind is none.
+/// position, or the kind is none. Want of memory comes only elsewhere.
 pub fn convert(
     alloc: Global,
     doc: Doc<'_>,
@@ -108,6 +108,8 @@ pub fn convert(
     ensures cites { IfOk result (λ tx. TxCites doc.entry.store.now tx) }
     ensures refused { IfErr result (λ fault.
         IsRefusal fault (model.convert (page_items doc.entry) at kind)) }
+    ensures memory { IfErr result (λ fault.
+        fault ≡ BuildFault.Memory → IsOk (model.convert (page_items doc.entry) at kind)) }
 {
     if !may_convert(doc, at, kind) {
         return Err(BuildFault::NotBranch { at });

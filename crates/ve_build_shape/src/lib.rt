@@ -16,8 +16,9 @@
 //!
 //! `marking` passes the range twice: the first pass finds the first item that would have too many
 //! marks, and brings no value. `attribute` has `Transaction::filled` find the position of an
-//! attribute that goes. The name is copied before it is tested, so want of memory may come first. A
-//! wrap's brackets are made once for all nodes of the range.
+//! attribute that goes. A wrap's brackets are made once for all nodes of the range. Want of memory
+//! comes only where nothing else refuses the change. `wrap` alone lists the nodes of its range
+//! before it finds a bracket that stands wrong.
 #![tactic(auto)]
 
 mod attributes;

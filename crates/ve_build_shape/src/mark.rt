@@ -1,5 +1,5 @@
 // Marks set on the characters and inline leaves of a range, or taken off them.
-ghost use Rattle.std.specs.Prelude.{◌≡◌, ◌≤◌, ◌<◌, Ok, IfOk, IfErr, OnOk, All, length, slice_get, find};
+ghost use Rattle.std.specs.Prelude.{◌≡◌, ◌≤◌, ◌<◌, Ok, IsOk, IfOk, IfErr, OnOk, All, length, slice_get, find};
 ghost use Rattle.model_items.specs.Plain.{plain_list, CitesWell};
 ghost use Rattle.model_items.specs.Offsets.{places_in, passes};
 ghost use Rattle.model_edit.specs.Marking as model;
@@ -97,8 +97,8 @@ fn remark_range(
 ///
 /// `BadRange` comes exactly where the range is none of the list or an end of it is inside a leaf.
 /// Then `BadMark` comes where the tag marks no text or an attribute has a reserved name. Last,
-/// `TooManyMarks` comes at the first item that would have more than 64 marks. After a refusal `new`
-/// may hold further values.
+/// `TooManyMarks` comes at the first item that would have more than 64 marks. Want of memory comes
+/// only where none of them does. After a refusal `new` may hold further values.
 pub fn marking(
     alloc: Global,
     doc: Doc<'_>,
@@ -118,6 +118,9 @@ pub fn marking(
     ensures grows { Grows new.old new.new }
     ensures refused { IfErr result (λ fault.
         IsRefusal fault (model.marking (page_items doc.entry) from to mark.now)) }
+    ensures memory { IfErr result (λ fault.
+        fault ≡ BuildFault.Memory
+        → IsOk (model.marking (page_items doc.entry) from to mark.now)) }
 {
     if is_bad_span(doc, from, to) {
         return Err(BuildFault::BadRange { from, to });
@@ -137,8 +140,8 @@ pub fn marking(
 /// The transaction that takes each mark equal to this off the characters and inline leaves of a
 /// range. Origins stay.
 ///
-/// `BadRange` and then `BadMark` come as in `marking`. After a refusal `new` may hold further
-/// values.
+/// `BadRange` and then `BadMark` come as in `marking`, and want of memory only where neither does.
+/// After a refusal `new` may hold further values.
 pub fn unmarking(
     alloc: Global,
     doc: Doc<'_>,
@@ -158,6 +161,9 @@ pub fn unmarking(
     ensures grows { Grows new.old new.new }
     ensures refused { IfErr result (λ fault.
         IsRefusal fault (model.unmarking (page_items doc.entry) from to mark.now)) }
+    ensures memory { IfErr result (λ fault.
+        fault ≡ BuildFault.Memory
+        → IsOk (model.unmarking (page_items doc.entry) from to mark.now)) }
 {
     if is_bad_span(doc, from, to) {
         return Err(BuildFault::BadRange { from, to });

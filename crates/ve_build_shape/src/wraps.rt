@@ -1,5 +1,5 @@
 // Nodes put into brackets, and taken out of them.
-ghost use Rattle.std.specs.Prelude.{◌≡◌, ◌≢◌, ◌≤◌, ◌<◌, ◌+◌, ◌-◌, ◌∷◌, [], Ok, IfOk, IfErr, OnOk, All, length};
+ghost use Rattle.std.specs.Prelude.{◌≡◌, ◌≢◌, ◌≤◌, ◌<◌, ◌+◌, ◌-◌, ◌∷◌, [], false, Ok, IfOk, IfErr, OnOk, All, length};
 ghost use Rattle.model_items.specs.Offsets as offsets;
 ghost use Rattle.model_items.specs.Plain.{CitesWell};
 ghost use Rattle.model_edit.specs.Wrap as model;
@@ -140,8 +140,8 @@ fn wrapped(
 /// of content, or holds a bracket of the internal list or of one of its items. Then `NotWrapped`
 /// comes where a bracket that is to go doesn't stand in its place. It names the first such position
 /// in the list's order, or 0 where too few items stand before the range. A closing stands where it
-/// must only if it is the partner of the opening that goes. After want of memory `new` may hold
-/// further values, and after another refusal it is as it was.
+/// must only if it is the partner of the opening that goes. Want of memory never comes in the place
+/// of `BadRange`, and `new` may then hold further values. After another refusal it is as it was.
 pub fn wrap(
     alloc: Global,
     doc: Doc<'_>,
@@ -162,6 +162,8 @@ pub fn wrap(
     ensures kept { IfErr result (λ fault. fault ≢ BuildFault.Memory → new.new ≡ new.old) }
     ensures refused { IfErr result (λ fault.
         IsRefusal fault (model.wrap (page_items doc.entry) from to plan.now)) }
+    ensures memory { IfErr result (λ fault.
+        fault ≡ BuildFault.Memory → model.is_bad_wrap (page_items doc.entry) from to ≡ false) }
 {
     if is_bad_wrap(doc, from, to) {
         return Err(BuildFault::BadRange { from, to });

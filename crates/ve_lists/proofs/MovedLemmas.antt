@@ -1,5 +1,5 @@
 -- The inserted items of a move, and when it is refused.
-use Rattle.std.proofs.Common.{◌≡◌, ℕ, suc, ◌-◌, ◌+◌, ◌==◌, arith, eq-eqb, eqb-true, slice_get, Bool, true, false, if◌then◌else◌, Ok, Err, Result, Option, Some, None, List, [], ◌∷◌, ◌++◌, refl, sym, ap, ◌∙◌, append-nil}
+use Rattle.std.proofs.Common.{◌≡◌, ℕ, suc, ◌+◌, ◌==◌, arith, eq-eqb, eqb-true, slice_get, Bool, true, false, if◌then◌else◌, Ok, Err, Result, Option, Some, None, List, [], ◌∷◌, ◌++◌, refl, sym, ap, ◌∙◌, append-nil}
 use Rattle.std.proofs.lemmas.Bool.{false_from_ne_true}
 use Rattle.ve_kinds.specs.declared.kind.Kind.TheVariants.{Li}
 use Rattle.ve_kinds.specs.Table.{kind_same}

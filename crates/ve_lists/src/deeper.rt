@@ -1,5 +1,5 @@
 // A list item moved one list deeper.
-ghost use Rattle.std.specs.Prelude.{◌≡◌, ◌≤◌, ◌<◌, true, Ok, IfOk, IfErr, All, length};
+ghost use Rattle.std.specs.Prelude.{◌≡◌, ◌≤◌, ◌<◌, true, Ok, IsOk, IfOk, IfErr, All, length};
 ghost use Rattle.model_items.specs.Plain.{plain_list, CitesWell};
 ghost use Rattle.model_edit.specs.Lists.{indent_edits};
 ghost use Rattle.model_edit.specs.Lists as model;
@@ -68,7 +68,7 @@ fn indented(alloc: Global, doc: Doc<'_>, at: usize, kind: Kind) -> Result<Transa
 /// The transaction that moves a list item into a list at the end of the item before it. That is the
 /// list that stands there, if it has the kind of the item's own list, or else a new one.
 /// `NotListItem` comes exactly where no list item begins at the position, and `NoSibling` exactly
-/// where none ends just before it.
+/// where none ends just before it. Want of memory comes only where neither does.
 pub fn indent(alloc: Global, doc: Doc<'_>, at: usize) -> Result<Transaction, ListFault>
     requires doc { IsDoc doc }
     requires cites { All (CitesWell doc.store.now) doc.list.now.items }
@@ -77,6 +77,8 @@ pub fn indent(alloc: Global, doc: Doc<'_>, at: usize) -> Result<Transaction, Lis
     ensures cites { IfOk result (λ tx. TxCites doc.entry.store.now tx) }
     ensures refused { IfErr result (λ fault.
         IsListRefusal fault (model.indent (page_items doc.entry) at)) }
+    ensures memory { IfErr result (λ fault.
+        fault ≡ ListFault.Memory → IsOk (model.indent (page_items doc.entry) at)) }
 {
     if !is_list_item(doc, at) {
         return Err(ListFault::NotListItem { at });

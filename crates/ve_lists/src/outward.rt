@@ -1,5 +1,5 @@
 // A list item moved one list out.
-ghost use Rattle.std.specs.Prelude.{◌≡◌, ◌≤◌, ◌<◌, ◌+◌, ◌==◌, true, Ok, IfOk, IfErr, All, length};
+ghost use Rattle.std.specs.Prelude.{◌≡◌, ◌≤◌, ◌<◌, ◌+◌, ◌==◌, true, Ok, IsOk, IfOk, IfErr, All, length};
 ghost use Rattle.model_items.specs.Offsets as offsets;
 ghost use Rattle.model_items.specs.Plain.{plain_list, CitesWell};
 ghost use Rattle.model_edit.specs.Lists.{end_before};
@@ -80,8 +80,8 @@ fn outdented(
 /// The transaction that moves a list item out of its list, to stand after the item that the list
 /// stands in. The items after it in its list become a list in it. The nodes after the list in the
 /// outer item are then its own too. `NotListItem` comes exactly where no list item begins at the
-/// position, and `NotNested` exactly where its list stands in no list item. After want of memory
-/// `new` may hold further values.
+/// position, and `NotNested` exactly where its list stands in no list item. Want of memory comes
+/// only where neither does, and `new` may then hold further values.
 pub fn outdent(
     alloc: Global,
     doc: Doc<'_>,
@@ -99,6 +99,8 @@ pub fn outdent(
     ensures grows { Grows new.old new.new }
     ensures refused { IfErr result (λ fault.
         IsListRefusal fault (model.outdent (page_items doc.entry) at)) }
+    ensures memory { IfErr result (λ fault.
+        fault ≡ ListFault.Memory → IsOk (model.outdent (page_items doc.entry) at)) }
 {
     if !is_list_item(doc, at) {
         return Err(ListFault::NotListItem { at });

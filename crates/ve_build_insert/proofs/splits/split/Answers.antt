@@ -1,4 +1,4 @@
-use Rattle.std.proofs.Common.{Ok, inr, refl, sym, ap, ◌∙◌, arith}
+use Rattle.std.proofs.Common.{Ok, is_ok, inr, refl, sym, ap, ◌∙◌, arith}
 use Rattle.model_items.specs.Plain.{plain_list}
 use Rattle.model_edit.specs.Causes.{BadOffset, NotContent, BadDepth}
 use Rattle.ve_edits.proofs.RoundLemmas.{open_count}
@@ -60,3 +60,13 @@ returns-in-Ok-clause-means c =
     split_given P c.args.at c.args.depth state.stack (stack_is S items c.args.at state here.leads) (here.good S) c.innermost.result c.innermost.ensures
     (sym c.is_content_branch.ensures ∙ c.if-not-is_content_branch.false) (sym c.is_bad_depth.ensures.means ∙ c.if-is_bad_depth.false)
     ∙ ap Ok (sym c.in-Ok.ensures.means)
+
+pub returns-in-Err-clause-memory : goal.returns-in-Err-clause-memory
+returns-in-Err-clause-memory c = λ _.
+    let S = c.args.doc.store.now in
+    let items = c.args.doc.list.now.items in
+    let P = plain_list S items in
+    let state = c.in-Some.state in
+    let here = c.in-Some.ensures.some in
+    ap is_ok (split_given P c.args.at c.args.depth state.stack (stack_is S items c.args.at state here.leads) (here.good S) c.innermost.result c.innermost.ensures
+    (sym c.is_content_branch.ensures ∙ c.if-not-is_content_branch.false) (sym c.is_bad_depth.ensures.means ∙ c.if-is_bad_depth.false))

@@ -1,4 +1,4 @@
-use Rattle.std.proofs.Common.{◌≡◌, None, inr, refl, sym, ◌∙◌}
+use Rattle.std.proofs.Common.{◌≡◌, None, is_ok, inr, refl, sym, ap, ◌∙◌}
 use Rattle.model_items.specs.Plain.{plain_list}
 use Rattle.model_edit.specs.Causes.{BadRange, BadMark, TooManyMarks}
 use Rattle.ve_edits.proofs.FollowingLemmas.{grows_itself}
@@ -47,3 +47,11 @@ returns-in-Ok-clause-means c =
     let P = plain_list S c.args.doc.list.now.items in
     marking-given P c.args.from c.args.to c.args.mark.now (sym (c.is_bad_span.ensures.bad S) ∙ c.if-is_bad_span.false) (sym c.is_bad_mark.ensures ∙ c.if-is_bad_mark.false) (let none : c.first_full.result ≡ None = (cc) in sym c.first_full.ensures ∙ none)
     ∙ c.in-Ok.ensures.means
+
+pub returns-in-Err-clause-memory : goal.returns-in-Err-clause-memory
+returns-in-Err-clause-memory c = λ _.
+    let S = c.args.doc.store.now in
+    let P = plain_list S c.args.doc.list.now.items in
+    let none : c.first_full.result ≡ None = (cc) in
+    ap is_ok (marking-given P c.args.from c.args.to c.args.mark.now (sym (c.is_bad_span.ensures.bad S) ∙ c.if-is_bad_span.false) (sym c.is_bad_mark.ensures ∙ c.if-is_bad_mark.false)
+    (sym c.first_full.ensures ∙ none))

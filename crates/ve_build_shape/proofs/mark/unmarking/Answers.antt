@@ -1,4 +1,4 @@
-use Rattle.std.proofs.Common.{inr, refl, sym, ◌∙◌}
+use Rattle.std.proofs.Common.{is_ok, inr, refl, sym, ap, ◌∙◌}
 use Rattle.model_items.specs.Plain.{plain_list}
 use Rattle.model_edit.specs.Causes.{BadRange, BadMark}
 use Rattle.ve_edits.proofs.FollowingLemmas.{grows_itself}
@@ -33,3 +33,9 @@ returns-in-Ok-clause-means c =
     let P = plain_list S c.args.doc.list.now.items in
     unmarking-given P c.args.from c.args.to c.args.mark.now (sym (c.is_bad_span.ensures.bad S) ∙ c.if-is_bad_span.false) (sym c.is_bad_mark.ensures ∙ c.if-is_bad_mark.false)
     ∙ c.in-Ok.ensures.means
+
+pub returns-in-Err-clause-memory : goal.returns-in-Err-clause-memory
+returns-in-Err-clause-memory c = λ _.
+    let S = c.args.doc.store.now in
+    let P = plain_list S c.args.doc.list.now.items in
+    ap is_ok (unmarking-given P c.args.from c.args.to c.args.mark.now (sym (c.is_bad_span.ensures.bad S) ∙ c.if-is_bad_span.false) (sym c.is_bad_mark.ensures ∙ c.if-is_bad_mark.false))

@@ -81,3 +81,9 @@ returns-in-Ok-wrapped-clause-means c =
     wrap-given P c.args.from c.args.to c.args.plan.now places (sym (c.is_bad_wrap.ensures.means S) ∙ c.if-is_bad_wrap.false)
     (c.as_slice-places.ensures.value ∙ c.in-Ok.ensures S) is
     ∙ ap Ok (sym c.in-Ok-wrapped.ensures.means)
+
+pub returns-in_default-clause-memory : goal.returns-in_default-clause-memory
+returns-in_default-clause-memory c = λ _. sym (c.is_bad_wrap.ensures.means c.args.doc.store.now) ∙ c.if-is_bad_wrap.false
+
+pub returns-clause-memory : goal.returns-clause-memory
+returns-clause-memory c = λ _. sym (c.is_bad_wrap.ensures.means c.args.doc.store.now) ∙ c.if-is_bad_wrap.false

@@ -1,11 +1,11 @@
-use Rattle.std.proofs.Common.{if◌then◌else◌, Ok, Err, inr, refl, sym, ap, ◌∙◌}
+use Rattle.std.proofs.Common.{◌≡◌, if◌then◌else◌, Ok, Err, is_ok, inr, refl, sym, ap, ◌∙◌}
 use Rattle.ve_kinds.specs.declared.kind.Kind.TheVariants.{Li}
 use Rattle.model_items.specs.Offsets.{kind_at}
 use Rattle.model_items.specs.Plain.{plain_list}
 use Rattle.model_edit.specs.Brackets.{is_closing_of}
 use Rattle.model_edit.specs.Causes.{NotListItem, NoSibling}
 use Rattle.model_edit.specs.Edits.{transaction_of}
-use Rattle.model_edit.specs.Lists.{passes_before, indent_edits}
+use Rattle.model_edit.specs.Lists.{passes_before, indent, indent_edits}
 use Rattle.ve_lists.proofs.deeper.indent.Goals as goal
 
 pub returns-then-not-is_list_item-clause-refused : goal.returns-then-not-is_list_item-clause-refused
@@ -52,3 +52,15 @@ returns-in-Ok-clause-means c =
 
 pub returns-in-Ok-clause-cites : goal.returns-in-Ok-clause-cites
 returns-in-Ok-clause-cites c = c.in-Ok.ensures.cites c.args.doc.store.now c.requires.cites
+
+pub returns-in-Err-clause-memory : goal.returns-in-Err-clause-memory
+returns-in-Err-clause-memory c = λ _.
+    let store = c.args.doc.store.now in
+    let all = plain_list store c.args.doc.list.now.items in
+    let at = c.args.at in
+    let given = transaction_of all (indent_edits all at (kind_at all at)) in
+    let made : indent all at ≡ Ok given =
+    ap (λ b. if b then (if passes_before (is_closing_of Li) all at then Ok given else Err (NoSibling at)) else Err (NotListItem at))
+    (sym (c.is_list_item.ensures.means store) ∙ c.if-not-is_list_item.false)
+    ∙ ap (λ b. if b then Ok given else Err (NoSibling at)) (sym (c.closes_before.ensures.means store) ∙ c.if-not-closes_before.false) in
+    ap is_ok made
