@@ -1,7 +1,9 @@
 // Columns put in and taken out.
-ghost use Rattle.std.specs.Prelude.{◌≡◌, ◌<◌, ◌≤◌, ◌+◌, ◌^◌, ◌∷◌, [], length, drop, Ok, All, IfOk, OnOk, IfErr};
-ghost use Rattle.model_items.specs.Offsets.{end_of_node};
+ghost use Rattle.std.specs.Prelude.{◌≡◌, ◌<◌, ◌≤◌, ◌+◌, ◌^◌, true, ◌∷◌, [], length, drop, slice_get, Ok, All, IfOk, OnOk, IfErr};
+ghost use Rattle.ve_kinds.specs.declared.kind.Kind.TheVariants.{Table};
+ghost use Rattle.model_items.specs.Offsets.{end_of_node, passes};
 ghost use Rattle.model_items.specs.Plain.{CitesWell};
+ghost use Rattle.model_edit.specs.Brackets.{is_opening_of};
 ghost use Rattle.model_edit.specs.Edits.{InOrder};
 ghost use Rattle.model_edit.specs.Tables as model;
 ghost use Rattle.model_edit.specs.Tables.{cell_removed};
@@ -245,6 +247,9 @@ pub fn col_in(
     ensures cites { IfOk result (TxCites doc.entry.store.now) }
     ensures refused { IfErr result (
         IsTableRefusal (model.col_in (page_items doc.entry) at column)) }
+    ensures memory { IfErr result (λ fault.
+        fault ≡ TableFault.Memory
+        → passes (is_opening_of Table) (slice_get (page_items doc.entry) at) ≡ true) }
 {
     let table = laid_table(alloc, doc, at)?;
     if let Some(fault) = col_in_fault(&table.grid, table.gaps.as_slice(), column) {
@@ -274,6 +279,9 @@ pub fn col_out(
     ensures cites { IfOk result (TxCites doc.entry.store.now) }
     ensures refused { IfErr result (
         IsTableRefusal (model.col_out (page_items doc.entry) at column)) }
+    ensures memory { IfErr result (λ fault.
+        fault ≡ TableFault.Memory
+        → passes (is_opening_of Table) (slice_get (page_items doc.entry) at) ≡ true) }
 {
     let table = laid_table(alloc, doc, at)?;
     if let Some(fault) = col_out_fault(&table.grid, column) {

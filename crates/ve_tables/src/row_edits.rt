@@ -1,7 +1,9 @@
 // Rows put in and taken out.
-ghost use Rattle.std.specs.Prelude.{◌≡◌, ◌<◌, ◌≤◌, length, map, Ok, All, IfOk, IfErr};
-ghost use Rattle.model_items.specs.Offsets.{end_of_node};
+ghost use Rattle.std.specs.Prelude.{◌≡◌, ◌<◌, ◌≤◌, true, length, map, slice_get, Ok, All, IfOk, IfErr};
+ghost use Rattle.ve_kinds.specs.declared.kind.Kind.TheVariants.{Table};
+ghost use Rattle.model_items.specs.Offsets.{end_of_node, passes};
 ghost use Rattle.model_items.specs.Plain.{CitesWell};
+ghost use Rattle.model_edit.specs.Brackets.{is_opening_of};
 ghost use Rattle.model_edit.specs.Tables as model;
 ghost use Rattle.ve_offsets.specs.Docs.{IsDoc, page_items};
 ghost use Rattle.ve_tx.specs.Cites.{TxCites};
@@ -113,6 +115,9 @@ pub fn row_in(alloc: Global, doc: Doc<'_>, at: usize, row: usize) -> Result<Tran
         model.row_in (page_items doc.entry) at row ≡ Ok (by_value doc.entry.store.now tx)) }
     ensures cites { IfOk result (TxCites doc.entry.store.now) }
     ensures refused { IfErr result (IsTableRefusal (model.row_in (page_items doc.entry) at row)) }
+    ensures memory { IfErr result (λ fault.
+        fault ≡ TableFault.Memory
+        → passes (is_opening_of Table) (slice_get (page_items doc.entry) at) ≡ true) }
 {
     let table = laid_table(alloc, doc, at)?;
     if let Some(fault) = row_in_fault(&table.grid, row) {
@@ -142,6 +147,9 @@ pub fn row_out(
         model.row_out (page_items doc.entry) at row ≡ Ok (by_value doc.entry.store.now tx)) }
     ensures cites { IfOk result (TxCites doc.entry.store.now) }
     ensures refused { IfErr result (IsTableRefusal (model.row_out (page_items doc.entry) at row)) }
+    ensures memory { IfErr result (λ fault.
+        fault ≡ TableFault.Memory
+        → passes (is_opening_of Table) (slice_get (page_items doc.entry) at) ≡ true) }
 {
     let table = laid_table(alloc, doc, at)?;
     if let Some(fault) = row_out_fault(&table.grid, row) {

@@ -1,5 +1,5 @@
 // The grid of a table.
-ghost use Rattle.std.specs.Prelude.{◌≡◌, ◌<◌, ◌^◌, [], Ok, length, map, slice_get, All, IfOk, IfErr, OnOk};
+ghost use Rattle.std.specs.Prelude.{◌≡◌, ◌<◌, ◌^◌, true, [], Ok, length, map, slice_get, All, IfOk, IfErr, OnOk};
 ghost use Rattle.ve_kinds.specs.declared.kind.Kind.TheVariants.{Table};
 ghost use Rattle.model_items.specs.Plain.{CitesWell};
 ghost use Rattle.model_items.specs.Offsets.{passes};
@@ -90,7 +90,12 @@ pub fn laid_table(alloc: Global, doc: Doc<'_>, at: usize) -> Result<LaidTable, T
     ensures rows { IfOk result (λ table.
         map row_of table.rows ≡ model.table_rows (page_items doc.entry) at) }
     ensures gaps { IfOk result (λ table. AreGaps table.grid.cells table.grid.rows table.gaps) }
+    ensures opens { OnOk result (
+        passes (is_opening_of Table) (slice_get (page_items doc.entry) at) ≡ true) }
     ensures refused { IfErr result (IsTableRefusal (model.grid (page_items doc.entry) at)) }
+    ensures memory { IfErr result (λ fault.
+        fault ≡ TableFault.Memory
+        → passes (is_opening_of Table) (slice_get (page_items doc.entry) at) ≡ true) }
 {
     if !opens_table(doc, at) {
         return Err(TableFault::NotTable { at });
@@ -106,13 +111,16 @@ pub fn laid_table(alloc: Global, doc: Doc<'_>, at: usize) -> Result<LaidTable, T
 }
 
 /// The grid of the table that opens at a position. `NotTable` comes exactly where no table opens
-/// there. `Crooked` comes with the position of the first cell that would cover a position which
-/// another covers, or pass the last row of its section.
+/// there, and want of memory only where one does. `Crooked` comes with the position of the first
+/// cell that would cover a position which another covers, or pass the last row of its section.
 pub fn grid(alloc: Global, doc: Doc<'_>, at: usize) -> Result<Grid, TableFault>
     requires doc { IsDoc doc }
     requires cites { All (CitesWell doc.store.now) doc.list.now.items }
     ensures means { IfOk result (λ grid. model.grid (page_items doc.entry) at ≡ Ok grid) }
     ensures refused { IfErr result (IsTableRefusal (model.grid (page_items doc.entry) at)) }
+    ensures memory { IfErr result (λ fault.
+        fault ≡ TableFault.Memory
+        → passes (is_opening_of Table) (slice_get (page_items doc.entry) at) ≡ true) }
 {
     let table = laid_table(alloc, doc, at)?;
     Ok(table.grid)
