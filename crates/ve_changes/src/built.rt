@@ -1,5 +1,5 @@
 // The draft of each builder's transaction, or the refusal that its fault is.
-ghost use Rattle.std.specs.Prelude.{◌≡◌};
+ghost use Rattle.std.specs.Prelude.{◌≡◌, IsOk, IfErr};
 ghost use Rattle.std.specs.Str.{chars};
 ghost use Rattle.model_edit.specs.Convert.{convert};
 ghost use Rattle.model_edit.specs.Insert.{split};
@@ -73,8 +73,10 @@ pub fn split_draft(
     depth: usize,
 ) -> Result<Draft, ChangeStop>
     requires page { IsPage doc.store.now doc.list.now.items doc.tree.now }
-    ensures { Drafts doc.entry.store.now (built_transaction (split (page_items doc.entry) at depth))
-        result }
+    ensures drafts { Drafts doc.entry.store.now
+        (built_transaction (split (page_items doc.entry) at depth)) result }
+    ensures memory { IfErr result (λ stop.
+        stop ≡ ChangeStop.Memory → IsOk (split (page_items doc.entry) at depth)) }
 {
     let mut values = NewValues::new(alloc, doc.store);
     let tx = split(alloc, doc, at, depth, &mut values)?;
@@ -89,8 +91,10 @@ pub fn removal_draft(
     to: usize,
 ) -> Result<Draft, ChangeStop>
     requires page { IsPage doc.store.now doc.list.now.items doc.tree.now }
-    ensures { Drafts doc.entry.store.now
+    ensures drafts { Drafts doc.entry.store.now
         (built_transaction (removal (page_items doc.entry) from to)) result }
+    ensures memory { IfErr result (λ stop.
+        stop ≡ ChangeStop.Memory → IsOk (removal (page_items doc.entry) from to)) }
 {
     let tx = removal(alloc, doc, from, to)?;
     Ok(over_store(alloc, doc, tx))
@@ -105,8 +109,10 @@ pub fn marking_draft(
     mark: &Mark,
 ) -> Result<Draft, ChangeStop>
     requires page { IsPage doc.store.now doc.list.now.items doc.tree.now }
-    ensures { Drafts doc.entry.store.now
+    ensures drafts { Drafts doc.entry.store.now
         (built_transaction (marking (page_items doc.entry) from to mark.now)) result }
+    ensures memory { IfErr result (λ stop.
+        stop ≡ ChangeStop.Memory → IsOk (marking (page_items doc.entry) from to mark.now)) }
 {
     let mut values = NewValues::new(alloc, doc.store);
     let tx = marking(alloc, doc, from, to, mark, &mut values)?;
@@ -122,8 +128,10 @@ pub fn unmarking_draft(
     mark: &Mark,
 ) -> Result<Draft, ChangeStop>
     requires page { IsPage doc.store.now doc.list.now.items doc.tree.now }
-    ensures { Drafts doc.entry.store.now
+    ensures drafts { Drafts doc.entry.store.now
         (built_transaction (unmarking (page_items doc.entry) from to mark.now)) result }
+    ensures memory { IfErr result (λ stop.
+        stop ≡ ChangeStop.Memory → IsOk (unmarking (page_items doc.entry) from to mark.now)) }
 {
     let mut values = NewValues::new(alloc, doc.store);
     let tx = unmarking(alloc, doc, from, to, mark, &mut values)?;
@@ -155,8 +163,10 @@ pub fn conversion_draft(
     kind: Kind,
 ) -> Result<Draft, ChangeStop>
     requires page { IsPage doc.store.now doc.list.now.items doc.tree.now }
-    ensures { Drafts doc.entry.store.now
+    ensures drafts { Drafts doc.entry.store.now
         (built_transaction (convert (page_items doc.entry) at kind)) result }
+    ensures memory { IfErr result (λ stop.
+        stop ≡ ChangeStop.Memory → IsOk (convert (page_items doc.entry) at kind)) }
 {
     let tx = convert(alloc, doc, at, kind)?;
     Ok(over_store(alloc, doc, tx))
@@ -171,9 +181,12 @@ pub fn attribute_draft(
     to: Option<&str>,
 ) -> Result<Draft, ChangeStop>
     requires page { IsPage doc.store.now doc.list.now.items doc.tree.now }
-    ensures { Drafts doc.entry.store.now
+    ensures drafts { Drafts doc.entry.store.now
         (built_transaction (attribute_spelled (page_items doc.entry) at name.now to.entry))
         result }
+    ensures memory { IfErr result (λ stop.
+        stop ≡ ChangeStop.Memory
+        → IsOk (attribute_spelled (page_items doc.entry) at name.now to.entry)) }
 {
     let tx = attribute(alloc, doc, at, name, to)?;
     Ok(over_store(alloc, doc, tx))

@@ -1,5 +1,5 @@
 // Rows, columns and list items that are moved, as drafts.
-ghost use Rattle.std.specs.Prelude.{◌≡◌, true, IfOk, IfErr};
+ghost use Rattle.std.specs.Prelude.{◌≡◌, true, IsOk, IfOk, IfErr};
 ghost use Rattle.model_edit.specs.Lists as model_lists;
 ghost use Rattle.model_edit.specs.Tables as model_tables;
 ghost use Rattle.model_world.specs.Refusals.{refused_as, table_refusal, list_refusal};
@@ -72,8 +72,10 @@ fn col_out(alloc: Global, doc: Doc<'_>, at: usize, column: usize) -> Result<Draf
 
 fn indent(alloc: Global, doc: Doc<'_>, at: usize) -> Result<Draft, ChangeStop>
     requires page { IsPage doc.store.now doc.list.now.items doc.tree.now }
-    ensures { Drafts doc.entry.store.now
+    ensures drafts { Drafts doc.entry.store.now
         (refused_as list_refusal (model_lists.indent (page_items doc.entry) at)) result }
+    ensures memory { IfErr result (λ stop.
+        stop ≡ ChangeStop.Memory → IsOk (model_lists.indent (page_items doc.entry) at)) }
 {
     let tx = ve_lists::indent(alloc, doc, at)?;
     Ok(over_store(alloc, doc, tx))
@@ -81,8 +83,10 @@ fn indent(alloc: Global, doc: Doc<'_>, at: usize) -> Result<Draft, ChangeStop>
 
 fn outdent(alloc: Global, doc: Doc<'_>, at: usize) -> Result<Draft, ChangeStop>
     requires page { IsPage doc.store.now doc.list.now.items doc.tree.now }
-    ensures { Drafts doc.entry.store.now
+    ensures drafts { Drafts doc.entry.store.now
         (refused_as list_refusal (model_lists.outdent (page_items doc.entry) at)) result }
+    ensures memory { IfErr result (λ stop.
+        stop ≡ ChangeStop.Memory → IsOk (model_lists.outdent (page_items doc.entry) at)) }
 {
     let mut values = NewValues::new(alloc, doc.store);
     let tx = ve_lists::outdent(alloc, doc, at, &mut values)?;
