@@ -5,6 +5,7 @@ mod StandsLemmas
 mod StepLemmas
 mod UndoLemmas
 mod RedoLemmas
+pub mod RefusalLemmas
 mod SendLemmas
 mod TakenLemmas
 mod MakingLemmas

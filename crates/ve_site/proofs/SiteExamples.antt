@@ -22,7 +22,7 @@ use Rattle.ve_site.specs.Ground.{ground_of, as_opened, AreOver}
 use Rattle.ve_site.specs.Laws.{longest_of}
 use Rattle.ve_site.specs.Numbered.{site_of, with_site}
 use Rattle.ve_site.specs.Taking.{MayTake, steps_of_take}
-use Rattle.ve_site.specs.Refusal.{IsUndoRefusal, IsRedoRefusal, IsSendRefusal}
+use Rattle.ve_site.specs.Refusal.{IsUndoRefusal, IsRedoRefusal, IsSendRefusal, send_refusal}
 
 abbrev letters : List ℕ → List PlainItem
 letters = map (λ c. Char c [])
@@ -126,6 +126,15 @@ nothing_to_redo = refl
 
 on_its_way : IsSendRefusal (send in_flight) (send_why.InFlight 1)
 on_its_way = refl
+
+its_refusal : send_refusal (send in_flight) ≡ Some (send_why.InFlight 1)
+its_refusal = refl
+
+nothing_is_unsent : send_refusal (send (record all_sent { in_flight = None })) ≡ Some send_why.NothingToSend
+nothing_is_unsent = refl
+
+none_where_it_sends : send_refusal (send (record in_flight { in_flight = None })) ≡ None
+none_where_it_sends = refl
 
 -- ---- takes
 

@@ -1,5 +1,6 @@
 -- The last unsent entry taken back.
-use Rattle.std.proofs.Common.{◌≡◌, ◌≤◌, ◌<◌, ◌+◌, ◌-◌, ℕ, suc, Bool, true, false, ◌&&◌, ◌==◌, nat_lt, if◌then◌else◌, List, [], ◌∷◌, ◌++◌, length, map, take, slice_get, All, Contains, Option, Some, None, Ok, Err, refl, sym, ap, ◌∙◌, subst, arith}
+use Rattle.std.proofs.Common.{◌≡◌, ◌≤◌, ◌<◌, ◌+◌, ◌-◌, ℕ, suc, Bool, true, false, ◌&&◌, ◌==◌, nat_lt, if◌then◌else◌, List, [], ◌∷◌, ◌++◌, length, map, take, slice_get, All, Contains, Option, Some, None, Ok, Err, IsOk, is_ok, refl, sym, ap, ◌∙◌, subst, arith}
+use Rattle.std.proofs.lemmas.Bool.{eqb-true, eqb-false}
 use Rattle.std.proofs.lemmas.List.{map-append, append_assoc}
 use Rattle.std.proofs.lemmas.List.Elements.{All-cons, All-head}
 use Rattle.model_items.specs.declared.plain_item.PlainItem.{PlainItem}
@@ -184,13 +185,34 @@ none_left : {A : Type 0} (xs : List A) → slice_get xs (length xs - 1) ≡ None
 none_left [] e = refl
 none_left (x ∷ xs) e = let n : suc (length xs) - 1 ≡ length xs = omega arith in absurd (last_is_some x xs (subst (λ k. slice_get (x ∷ xs) k ≡ None) n e))
 
-pub nothing_undone : (s : Site) (old : List Entry) (why : UndoFault) → s.unsent ≡ map (entry_by_value s.replica.store) old → slice_get old (length old - 1) ≡ None →
+no_items : {A : Type 0} (xs : List A) → length xs ≡ 0 → xs ≡ []
+no_items [] e = refl
+no_items (x ∷ xs) e = absurd (omega (arith, e))
+
+-- `lent` are the entries that the code looks at
+pub nothing_undone : (s : Site) (old lent : List Entry) (why : UndoFault) → s.unsent ≡ map (entry_by_value s.replica.store) old → lent ≡ old → (length lent == 0) ≡ true →
     why ≡ (if s.shared == 0 then fault.NothingToUndo else fault.AlreadyShared s.shared) → IsUndoRefusal (undo s) why
-nothing_undone s old why u e w =
-    let none : s.unsent ≡ [] = u ∙ ap (map (entry_by_value s.replica.store)) (none_left old e) in
+nothing_undone s old lent why u same e w =
+    let none : s.unsent ≡ [] = u ∙ ap (map (entry_by_value s.replica.store)) (sym same ∙ no_items lent (eqb-true (length lent) 0 e)) in
     let told = by_count (s.shared == 0) in
     subst (λ es. IsUndoRefusal (undo_last es s) why) (sym none) (subst (IsUndoRefusal (undo_last [] s)) (sym w) told)
   where
     by_count : (b : Bool) → IsUndoRefusal {A = Site} (Err (if b then NothingToUndo else AlreadyShared s.shared)) (if b then fault.NothingToUndo else fault.AlreadyShared s.shared)
     by_count true = refl
     by_count false = refl
+
+pub not_memory : (sent : ℕ) (why : UndoFault) → why ≡ (if sent == 0 then fault.NothingToUndo else fault.AlreadyShared sent) → why ≡ fault.Memory → ⊥
+not_memory sent why w want = by_count (sent == 0) (sym w ∙ want)
+  where
+    by_count : (b : Bool) → (if b then fault.NothingToUndo else fault.AlreadyShared sent) ≡ fault.Memory → ⊥
+    by_count true e = cc
+    by_count false e = cc
+
+-- ---- something to take back
+
+pub last_is_lent : (old lent : List Entry) → lent ≡ old → (length lent == 0) ≡ false → slice_get old (length old - 1) ≡ None → ⊥
+last_is_lent old lent same some none = eqb-false (length lent) 0 some (ap length (same ∙ none_left old none))
+
+pub undoes : (s : Site) (old lent : List Entry) → s.unsent ≡ map (entry_by_value s.replica.store) old → lent ≡ old → (length lent == 0) ≡ false → IsOk (undo s)
+undoes s old [] u same some = absurd (eqb-false 0 0 some refl)
+undoes s old (e ∷ es) u same some = ap (λ us. is_ok (undo_last us s)) (u ∙ ap (map (entry_by_value s.replica.store)) (sym same))

@@ -1,5 +1,5 @@
--- How a call tells why nothing was undone, redone or sent. Want of memory may come at any time.
-use Rattle.std.specs.Prelude.{◌≡◌, Result, Err}
+-- How a call tells why nothing was undone, redone or sent. Of want of memory this says nothing.
+use Rattle.std.specs.Prelude.{◌≡◌, Option, Some, None, Result, Ok, Err}
 use Rattle.model_site.specs.Causes as cause
 use Rattle.model_site.specs.Causes.{UndoCause, RedoCause, SendCause}
 use Rattle.model_site.specs.declared.site_fault.UndoFault.{UndoFault}
@@ -22,3 +22,9 @@ abbrev pub IsSendRefusal : {A : Type 0} → Result A SendCause → SendFault →
 IsSendRefusal sent (send.InFlight entries) = sent ≡ Err (cause.InFlight entries)
 IsSendRefusal sent send.NothingToSend = sent ≡ Err cause.NothingToSend
 IsSendRefusal sent send.Memory = Unit {0}
+
+-- the fault that tells why nothing is sent, and none where it is sent
+abbrev pub send_refusal : {A : Type 0} → Result A SendCause → Option SendFault
+send_refusal (Ok sent) = None
+send_refusal (Err (cause.InFlight entries)) = Some (send.InFlight entries)
+send_refusal (Err cause.NothingToSend) = Some send.NothingToSend

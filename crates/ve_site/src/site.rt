@@ -1,5 +1,5 @@
 // A site.
-ghost use Rattle.std.specs.Prelude.{◌≡◌, ◌≢◌, ◌≤◌, ◌+◌, ◌==◌, if◌then◌else◌, List, [], ◌∷◌, Ok, length, ◌↔◌, IsTrue, IfOk, IfErr, OnOk, OnErr};
+ghost use Rattle.std.specs.Prelude.{◌≡◌, ◌≢◌, ◌≤◌, ◌+◌, ◌==◌, if◌then◌else◌, List, [], ◌∷◌, Ok, length, ◌↔◌, IsTrue, IsOk, IfOk, IfErr, OnOk, OnErr};
 ghost use Rattle.model_change.specs.Transaction.{Transaction, InsertedApart};
 ghost use Rattle.model_site.specs.Entries.{entry_of, parcels, reverted};
 ghost use Rattle.model_site.specs.Replica.{all_performed};
@@ -71,7 +71,7 @@ impl Site {
     ghost use Rattle.ve_tx.specs.ByValue.{parcel_by_value, ParcelCites};
     ghost use Rattle.ve_site.specs.Numbered.{with_site};
     ghost use Rattle.ve_site.specs.Settled.{with_new_entry, Settles};
-    ghost use Rattle.ve_site.specs.Refusal.{IsUndoRefusal, IsRedoRefusal, IsSendRefusal};
+    ghost use Rattle.ve_site.specs.Refusal.{IsUndoRefusal, IsRedoRefusal, IsSendRefusal, send_refusal};
     ghost use Rattle.model_site.specs.Refused.{edit_cause};
 
     /// A site with the page that was opened, which has seen no committed entry and has nothing
@@ -196,22 +196,26 @@ impl Site {
 
     /// Takes back the last entry that is not sent. It can be redone until another edit is made or a
     /// feed is taken. Where nothing is unsent, `NothingToUndo` comes exactly if the site sent no
-    /// entry since the page was opened, and `AlreadyShared` exactly if it did. An `Err` changes
-    /// nothing.
+    /// entry since the page was opened, and `AlreadyShared` exactly if it did. Want of memory comes
+    /// only where an entry is unsent. An `Err` changes nothing.
     pub fn undo<L: Ledger>(&mut self, steps: &mut Steps<L>) -> Result<(), UndoFault>
         ensures site { OnOk result (undo self.old.site ≡ Ok self.new.site) }
         ensures number { self.new.number ≡ self.old.number }
         ensures refused { IfErr result (IsUndoRefusal (undo self.old.site)) }
+        ensures memory { IfErr result (λ why. why ≡ UndoFault.Memory → IsOk (undo self.old.site)) }
         ensures kept { OnErr result (self.new ≡ self.old) }
         ensures counted { steps.old ≤ steps.new }
         ensures steps { steps.new
             ≤ steps.old + steps_over (undoing self.old.site.unsent) self.old.site.replica.items }
     {
+        if self.history.done().is_empty() {
+            return Err(nothing_to_undo(self.shared));
+        }
         if self.history.reserve().is_err() {
             return Err(UndoFault::Memory);
         }
         let Some(last) = self.history.undo_top() else {
-            return Err(nothing_to_undo(self.shared));
+            unreachable!();
         };
         let Ok(parcel) = Parcel::of(self.alloc, last, self.editor.doc().store) else {
             return Err(UndoFault::Memory);
@@ -226,22 +230,26 @@ impl Site {
     }
 
     /// Performs the last undone entry again, as a new entry. `NothingToRedo` comes exactly where
-    /// nothing was undone since the last edit or take that was not redone. An `Err` changes
-    /// nothing.
+    /// nothing was undone since the last edit or take that was not redone, and want of memory only
+    /// where something was. An `Err` changes nothing.
     pub fn redo<L: Ledger>(&mut self, steps: &mut Steps<L>) -> Result<(), RedoFault>
         ensures site { OnOk result (redo self.old.site ≡ Ok self.new.site) }
         ensures number { self.new.number ≡ self.old.number }
         ensures refused { IfErr result (IsRedoRefusal (redo self.old.site)) }
+        ensures memory { IfErr result (λ why. why ≡ RedoFault.Memory → IsOk (redo self.old.site)) }
         ensures kept { OnErr result (self.new ≡ self.old) }
         ensures counted { steps.old ≤ steps.new }
         ensures steps { steps.new
             ≤ steps.old + steps_over (redoing self.old.site.undone) self.old.site.replica.items }
     {
+        if self.history.redo_top().is_none() {
+            return Err(RedoFault::NothingToRedo);
+        }
         if self.history.reserve().is_err() {
             return Err(RedoFault::Memory);
         }
         let Some(undone) = self.history.redo_top() else {
-            return Err(RedoFault::NothingToRedo);
+            unreachable!();
         };
         let Ok(entry) = self.editor.admit(undone, steps) else {
             return Err(RedoFault::Memory);
@@ -297,25 +305,37 @@ impl Site {
         Ok(())
     }
 
+    /// Why nothing can be sent: `InFlight` where a submission is not acknowledged yet, and else
+    /// `NothingToSend` where nothing is unsent. Where it is `None`, `send` can only want memory.
+    pub fn send_refusal(&self) -> Option<SendFault>
+        ensures { result ≡ send_refusal (send self.now.site) }
+    {
+        if let Some(entries) = self.in_flight {
+            return Some(SendFault::InFlight { entries });
+        }
+        if self.history.done().is_empty() {
+            return Some(SendFault::NothingToSend);
+        }
+        None
+    }
+
     /// Sends all entries that are not sent, as one submission made on the committed entries that it
-    /// has seen. `InFlight` comes exactly where a submission is not acknowledged yet, and else
-    /// `NothingToSend` exactly where nothing is unsent. An `Err` changes nothing.
+    /// has seen. It is refused exactly as `send_refusal` says, and wants memory only where that is
+    /// `None`. An `Err` changes nothing.
     pub fn send(&mut self) -> Result<Submit, SendFault>
         ensures sent { IfOk result (λ sent.
             send self.old.site ≡ Ok (self.new.site, submission_of sent)) }
         ensures from { IfOk result (λ sent. sent.site ≡ self.old.number) }
         ensures number { self.new.number ≡ self.old.number }
         ensures refused { IfErr result (IsSendRefusal (send self.old.site)) }
+        ensures memory { IfErr result (λ why. why ≡ SendFault.Memory → IsOk (send self.old.site)) }
         ensures kept { OnErr result (self.new ≡ self.old) }
     {
-        if let Some(entries) = self.in_flight {
-            return Err(SendFault::InFlight { entries });
+        if let Some(fault) = self.send_refusal() {
+            return Err(fault);
         }
         let unsent = self.history.done();
         let count = unsent.len();
-        if count == 0 {
-            return Err(SendFault::NothingToSend);
-        }
         let Some(shared) = self.shared.checked_add(count) else {
             return Err(SendFault::Memory);
         };

@@ -1,5 +1,5 @@
 -- The server's turn and a site's: what they may be asked, and what they make of a session.
-use Rattle.std.proofs.Common.{◌≡◌, ◌<◌, ◌≤◌, ℕ, List, [], ◌∷◌, ◌++◌, length, drop, set, get_or, slice_get, Option, Some, None, refl, sym, ap, ◌∙◌, subst, arith}
+use Rattle.std.proofs.Common.{◌≡◌, ◌<◌, ◌≤◌, ℕ, List, [], ◌∷◌, ◌++◌, length, drop, set, get_or, slice_get, Option, Some, None, is_some, true≢false, refl, sym, ap, ◌∙◌, subst, arith}
 use Rattle.std.proofs.lemmas.List.{length-append, length-set}
 use Rattle.std.proofs.Math.Seq.{drop-append_seam}
 use Rattle.ve_base.specs.declared.value.Value.{Value}
@@ -141,6 +141,10 @@ module _ (values : List Value) (first : List Item) (server : Serving) (senders :
     turned : serve_next k one w ≡ Some (serve_one k one s left.submissions w)
     turned = ap (λ ss. serve_first k one ss w) (first_and_rest m.submissions s next)
 
+    pub some_served : serve_next k (member_at old k) old.session ≡ None → ⊥
+    some_served none =
+        true≢false (sym (ap is_some (sym none ∙ (ap (λ (n : Member). serve_next k n w) (member_is values first server senders h k m inside is) ∙ turned))))
+
     served_session : session_of values first (after_serving k s server) (set senders k left) ≡ (serve_one k one s left.submissions w).0
     served_session =
         let kept = (accepted_of server.committed s).kept in
@@ -222,6 +226,9 @@ module _ (now : Shared) (values : List Value) (first : List Item) (server : Serv
   pub idle_server : slice_get m.submissions 0 ≡ None → None ≡ serve_next k (member_at now k) now.session
   idle_server next = subst (λ (s : Shared). None ≡ serve_next k (member_at s k) s.session) view (none_served values first server senders h k m inside is next)
 
+  pub busy_server : (s : Submission) → slice_get m.submissions 0 ≡ Some s → serve_next k (member_at now k) now.session ≡ None → ⊥
+  busy_server s next = subst (λ (x : Shared). serve_next k (member_at x k) x.session ≡ None → ⊥) view (some_served values first server senders h k m inside is s next)
+
   module _ (s : Submission) (next : slice_get m.submissions 0 ≡ Some s) (later : Serving) (t : Sender) (does : later ≡ after_serving number s server) (drops : t ≡ record m { submissions = drop 1 m.submissions }) where
     serves : later ≡ after_serving k s server
     serves = does ∙ ap (λ n. after_serving n s server) at_k
@@ -251,6 +258,9 @@ module _ (now : Shared) (values : List Value) (first : List Item) (server : Serv
 
     pub next_taken : (member_at now k).feeds ≡ f ∷ (first_of (get_or server.queues k [])).1
     next_taken = subst (λ (s : Shared). (member_at s k).feeds ≡ f ∷ (first_of (get_or server.queues k [])).1) view (feeds_are values first server senders h k m inside is f (to_k (Some f) next))
+
+    pub busy_site : take_next k (member_at now k) now.session ≡ None → ⊥
+    busy_site none = true≢false (sym (ap is_some (sym none ∙ ap (λ fs. take_first k (member_at now k) fs now.session) next_taken)))
 
     module _ (later : Serving) (t : Sender) (does : later ≡ (first_feed number server).1) (takes : t ≡ at_site (site_after f m.site) m) where
       feeds_k : later ≡ (first_feed k server).1

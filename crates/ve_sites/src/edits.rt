@@ -1,5 +1,5 @@
 // Turns of one site by itself.
-ghost use Rattle.std.specs.Prelude.{◌≡◌, ◌≢◌, ◌≤◌, ◌<◌, ◌+◌, ◌∷◌, [], Ok, List, drop, length, IfOk, IfErr, OnOk, OnErr};
+ghost use Rattle.std.specs.Prelude.{◌≡◌, ◌≢◌, ◌≤◌, ◌<◌, ◌+◌, ◌∷◌, [], Ok, List, drop, length, IsOk, IfOk, IfErr, OnOk, OnErr};
 ghost use Rattle.model_change.specs.Replay.{revoke};
 ghost use Rattle.model_change.specs.Transaction.{InsertedApart};
 ghost use Rattle.model_site.specs.Refused.{edit_cause};
@@ -94,6 +94,8 @@ impl Sites {
         ensures site { OnOk result (undo (site_at self.old k) ≡ Ok (site_at self.new k)) }
         ensures same { OnOk result (self.new ≡ with_site_at k (site_at self.new k) self.old) }
         ensures refused { IfErr result (IsUndoRefusal (undo (site_at self.old k))) }
+        ensures memory { IfErr result (λ why.
+            why ≡ UndoFault.Memory → IsOk (undo (site_at self.old k))) }
         ensures kept { OnErr result (self.new ≡ self.old) }
         ensures counted { steps.old ≤ steps.new }
         ensures steps { steps.new
@@ -111,6 +113,8 @@ impl Sites {
         ensures site { OnOk result (redo (site_at self.old k) ≡ Ok (site_at self.new k)) }
         ensures same { OnOk result (self.new ≡ with_site_at k (site_at self.new k) self.old) }
         ensures refused { IfErr result (IsRedoRefusal (redo (site_at self.old k))) }
+        ensures memory { IfErr result (λ why.
+            why ≡ RedoFault.Memory → IsOk (redo (site_at self.old k))) }
         ensures kept { OnErr result (self.new ≡ self.old) }
         ensures counted { steps.old ≤ steps.new }
         ensures steps { steps.new

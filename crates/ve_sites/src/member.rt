@@ -1,5 +1,5 @@
 // A site of a session.
-ghost use Rattle.std.specs.Prelude.{◌≡◌, ◌≢◌, ◌≤◌, ◌+◌, ◌++◌, ◌∷◌, [], List, Ok, drop, length, option_copied, option_map, slice_get, IfSome, IfOk, IfErr, OnOk, OnErr};
+ghost use Rattle.std.specs.Prelude.{◌≡◌, ◌≢◌, ◌≤◌, ◌+◌, ◌++◌, ◌∷◌, [], List, Ok, drop, length, option_copied, option_map, slice_get, IsOk, IfSome, IfOk, IfErr, OnOk, OnErr};
 ghost use Rattle.model_change.specs.Replay.{AllRun};
 ghost use Rattle.model_change.specs.Transaction.{InsertedApart};
 ghost use Rattle.model_site.specs.Refused.{edit_cause};
@@ -111,6 +111,7 @@ impl Member {
         ensures site { OnOk result (undo self.old.site ≡ Ok self.new.site) }
         ensures same { self.new ≡ at_site self.new.site self.old }
         ensures refused { IfErr result (IsUndoRefusal (undo self.old.site)) }
+        ensures memory { IfErr result (λ why. why ≡ UndoFault.Memory → IsOk (undo self.old.site)) }
         ensures kept { OnErr result (self.new ≡ self.old) }
         ensures counted { steps.old ≤ steps.new }
         ensures steps { steps.new
@@ -124,6 +125,7 @@ impl Member {
         ensures site { OnOk result (redo self.old.site ≡ Ok self.new.site) }
         ensures same { self.new ≡ at_site self.new.site self.old }
         ensures refused { IfErr result (IsRedoRefusal (redo self.old.site)) }
+        ensures memory { IfErr result (λ why. why ≡ RedoFault.Memory → IsOk (redo self.old.site)) }
         ensures kept { OnErr result (self.new ≡ self.old) }
         ensures counted { steps.old ≤ steps.new }
         ensures steps { steps.new
@@ -162,12 +164,16 @@ impl Member {
     }
 
     /// Has the site send, and keeps what it sent behind what waits. It gives how many entries these
-    /// are. An `Err` changes nothing.
+    /// are. It is refused as `Site::send` refuses, and an `Err` changes nothing.
     pub fn send(&mut self) -> Result<usize, SendFault>
         ensures sent { IfOk result (λ count. HasGone count self.old self.new) }
         ensures refused { IfErr result (IsSendRefusal (send self.old.site)) }
+        ensures memory { IfErr result (λ why. why ≡ SendFault.Memory → IsOk (send self.old.site)) }
         ensures kept { OnErr result (self.new ≡ self.old) }
     {
+        if let Some(fault) = self.site.send_refusal() {
+            return Err(fault);
+        }
         if self.submissions.reserve(1).is_err() {
             return Err(SendFault::Memory);
         }

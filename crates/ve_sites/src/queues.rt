@@ -1,5 +1,5 @@
 // Messages between the sites and the server.
-ghost use Rattle.std.specs.Prelude.{◌≡◌, ◌≤◌, ◌<◌, ◌+◌, None, option_map, IfOk, IfErr, OnErr};
+ghost use Rattle.std.specs.Prelude.{◌≡◌, ◌≤◌, ◌<◌, ◌+◌, None, option_map, IsOk, IfOk, IfErr, OnErr};
 ghost use Rattle.model_site.specs.Session.{serve_next, take_next};
 ghost use Rattle.model_site.specs.Site.{send};
 ghost use Rattle.ve_site.specs.Refusal.{IsSendRefusal};
@@ -18,6 +18,8 @@ impl Sites {
         requires site { k < sites self.old }
         ensures sent { IfOk result (λ count. HasSent k count self.old self.new) }
         ensures refused { IfErr result (IsSendRefusal (send (site_at self.old k))) }
+        ensures memory { IfErr result (λ why.
+            why ≡ SendFault.Memory → IsOk (send (site_at self.old k))) }
         ensures kept { OnErr result (self.new ≡ self.old) }
     {
         self.members[k].send()
@@ -27,13 +29,15 @@ impl Sites {
     /// are committed, and each site is fed. The answer says how many entries were accepted of how
     /// many, and which ranges are in conflict.
     ///
-    /// The only `Err` is want of memory, and it changes nothing.
+    /// The only `Err` is want of memory, where a submission waits. It changes nothing.
     pub fn serve(&mut self, k: usize) -> Result<Option<Served>, Memory>
         requires site { k < sites self.old }
         ensures served { IfOk result (λ served.
             option_map (λ answer. (self.new.session, answer)) served
             ≡ serve_next k (member_at self.old k) self.old.session) }
         ensures idle { IfOk result (λ served. served ≡ None → self.new ≡ self.old) }
+        ensures nothing { serve_next k (member_at self.old k) self.old.session ≡ None
+            → IsOk result }
         ensures first { self.new.first ≡ self.old.first }
         ensures kept { OnErr result (self.new ≡ self.old) }
     {
@@ -47,8 +51,8 @@ impl Sites {
 
     /// The turn of site `k`: it takes the next feed that the server has for it, if there is one.
     ///
-    /// The only `Err` is want of memory, which is also the answer where a joined transaction would
-    /// be longer than a transaction may be. Then nothing changes.
+    /// The only `Err` is want of memory, where a feed waits. It is also the answer where a joined
+    /// transaction would be longer than a transaction may be. Then nothing changes.
     pub fn take<L: Ledger>(
         &mut self,
         k: usize,
@@ -59,6 +63,8 @@ impl Sites {
             option_map (λ told. (self.new.session, told)) taken
             ≡ take_next k (member_at self.old k) self.old.session) }
         ensures idle { IfOk result (λ taken. taken ≡ None → self.new ≡ self.old) }
+        ensures nothing { take_next k (member_at self.old k) self.old.session ≡ None
+            → IsOk result }
         ensures first { self.new.first ≡ self.old.first }
         ensures kept { OnErr result (self.new ≡ self.old) }
         ensures counted { steps.old ≤ steps.new }

@@ -1,4 +1,4 @@
-use Rattle.std.proofs.Common.{◌≡◌, ◌≤◌, ◌+◌, [], ◌∷◌, ◌++◌, true, is_ok, drop, sym, ap, ◌∙◌, subst, List, map, slice_get, None, refl}
+use Rattle.std.proofs.Common.{◌≡◌, ◌≤◌, ◌+◌, [], ◌∷◌, ◌++◌, true, is_ok, IsOk, rules, drop, sym, ap, ◌∙◌, subst, List, map, slice_get, None, refl}
 use Rattle.ve_tx.specs.declared.parcel.Parcel.{Parcel}
 use Rattle.ve_site.specs.Refusal.{IsRedoRefusal}
 use Rattle.model_site.specs.Untold.{passed}
@@ -6,7 +6,7 @@ use Rattle.ve_tx.specs.Operation.{Operation, by_value}
 use Rattle.ve_tx.proofs.ChangeLemmas.{ok-holds}
 use Rattle.ve_site.specs.Numbered.{Numbered, IsSite, site_of}
 use Rattle.ve_site.proofs.StepLemmas.{roomy_same, roomy_is}
-use Rattle.ve_site.proofs.RedoLemmas.{may_come, redo_counts, redo_is, redone_is, first_cites, nothing_redone}
+use Rattle.ve_site.proofs.RedoLemmas.{may_come, redo_counts, redo_is, redone_is, first_cites, nothing_redone, none_lent, some_lent, redoes}
 use Rattle.model_site.specs.Site.{Site, redo}
 use Rattle.ve_editor.specs.Counted.{steps_over}
 use Rattle.ve_site.specs.Counted.{redoing}
@@ -70,12 +70,6 @@ returns-clause-steps g c =
     subst (λ (x : Site). c.admit.new.steps ≤ c.args.steps.now + steps_over (redoing x.undone) x.replica.items) (same ∙ ap (λ (v : Numbered). v.site) c.self.view_is)
     (redo_counts s.editor s.untold s.seen s.sent.items room s.shared s.in_flight is c.in-Some.undone.now (sym c.in-Some.ensures) c.args.steps.now c.admit.new.steps c.admit.ensures.steps)
 
-pub invariant_of-self-in_default : goal.invariant_of-self-in_default
-invariant_of-self-in_default g c =
-    let s = c.self.inside in
-    let room = c.reserve.new.self in
-    roomy_is s.editor s.untold s.seen s.sent.items s.history s.shared s.in_flight c.self.invariant room c.reserve.ensures.done c.reserve.ensures.undone
-
 pub invariant_of-self-in_default-admit : goal.invariant_of-self-in_default-admit
 invariant_of-self-in_default-admit g c =
     let s = c.self.inside in
@@ -83,12 +77,41 @@ invariant_of-self-in_default-admit g c =
     subst (λ r. IsSite r s.seen s.sent.items room s.shared s.in_flight) (sym c.in_default-admit.ensures.kept)
     (roomy_is s.editor s.untold s.seen s.sent.items s.history s.shared s.in_flight c.self.invariant room c.reserve.ensures.done c.reserve.ensures.undone)
 
-pub returns-in_default-clause-refused : goal.returns-in_default-clause-refused
-returns-in_default-clause-refused g c =
+pub returns-then-is_none-clause-refused : goal.returns-then-is_none-clause-refused
+returns-then-is_none-clause-refused g c =
+    let s = c.self.inside in
+    let none = none_lent s.history.undone c.redo_top.result c.is_none.result c.redo_top.ensures c.is_none.ensures c.if-is_none.true in
+    let refused : IsRedoRefusal (redo c.args.self.now.site) fault.NothingToRedo =
+    subst (λ (x : Site). IsRedoRefusal (redo x) fault.NothingToRedo) (ap (λ (v : Numbered). v.site) c.self.view_is)
+    (nothing_redone (site_of s.editor s.untold s.seen s.sent.items s.history s.shared s.in_flight) s.history.undone refl none) in
+    -- found and not given, so that only the next goal refuses the answer `Memory` here
+    search (rules, refused)
+
+not_memory : fault.NothingToRedo ≡ fault.Memory → ⊥
+not_memory e = cc
+
+pub returns-then-is_none-clause-memory : goal.returns-then-is_none-clause-memory
+returns-then-is_none-clause-memory g c = λ want. absurd (not_memory want)
+
+pub returns-then-is_err-clause-memory : goal.returns-then-is_err-clause-memory
+returns-then-is_err-clause-memory g c = λ _.
+    let s = c.self.inside in
+    subst (λ (x : Site). IsOk (redo x)) (ap (λ (v : Numbered). v.site) c.self.view_is)
+    (redoes (site_of s.editor s.untold s.seen s.sent.items s.history s.shared s.in_flight) s.history.undone refl
+    (some_lent s.history.undone c.redo_top.result c.is_none.result c.redo_top.ensures c.is_none.ensures c.if-is_none.false))
+
+pub returns-in_default-admit-clause-memory : goal.returns-in_default-admit-clause-memory
+returns-in_default-admit-clause-memory g c = λ _.
+    let s = c.self.inside in
+    subst (λ (x : Site). IsOk (redo x)) (ap (λ (v : Numbered). v.site) c.self.view_is)
+    (redoes (site_of s.editor s.untold s.seen s.sent.items s.history s.shared s.in_flight) s.history.undone refl
+    (some_lent s.history.undone c.redo_top.result c.is_none.result c.redo_top.ensures c.is_none.ensures c.if-is_none.false))
+
+pub unreachable-requires : goal.unreachable-requires
+unreachable-requires g c =
     let s = c.self.inside in
     let none = subst (λ (ps : List Parcel). slice_get ps 0 ≡ None) c.reserve.ensures.undone (sym c.in_default.ensures) in
-    subst (λ (x : Site). IsRedoRefusal (redo x) fault.NothingToRedo) (ap (λ (v : Numbered). v.site) c.self.view_is)
-    (nothing_redone (site_of s.editor s.untold s.seen s.sent.items s.history s.shared s.in_flight) s.history.undone refl none)
+    some_lent s.history.undone c.redo_top.result c.is_none.result c.redo_top.ensures c.is_none.ensures c.if-is_none.false none
 
 pub admit-requires-clause-cites : goal.admit-requires-clause-cites
 admit-requires-clause-cites g c =

@@ -1,4 +1,4 @@
-use Rattle.std.proofs.Common.{◌≡◌, ◌≤◌, ◌+◌, ◌-◌, ◌∷◌, true, is_ok, List, length, map, slice_get, All, None, refl, sym, ap, ◌∙◌, subst}
+use Rattle.std.proofs.Common.{◌≡◌, ◌≤◌, ◌+◌, ◌-◌, ◌∷◌, true, is_ok, IsOk, List, length, map, slice_get, All, None, refl, sym, ap, ◌∙◌, subst}
 use Rattle.model_change.specs.Replay.{reversal}
 use Rattle.model_site.specs.Untold.{passed}
 use Rattle.model_site.specs.Entries.{reverted}
@@ -12,17 +12,44 @@ use Rattle.ve_history.specs.Stacks.{without_last}
 use Rattle.ve_site.specs.Numbered.{Numbered, site_of, IsSite}
 use Rattle.ve_site.specs.Refusal.{IsUndoRefusal}
 use Rattle.ve_site.proofs.StepLemmas.{roomy_same, roomy_is, not_err, is_err_then}
-use Rattle.ve_site.proofs.UndoLemmas.{last_cites, undo_counts, may_go, cuts_uncited, undo_is, undone_is, nothing_undone}
+use Rattle.ve_site.proofs.UndoLemmas.{last_cites, undo_counts, may_go, cuts_uncited, undo_is, undone_is, nothing_undone, not_memory, last_is_lent, undoes}
 use Rattle.ve_editor.specs.Counted.{steps_over}
 use Rattle.ve_site.specs.Counted.{undoing}
 use Rattle.ve_site.proofs.site.Site.undo.Goals as goal
 
-pub returns-in_default-clause-refused : goal.returns-in_default-clause-refused
-returns-in_default-clause-refused g c =
+pub returns-then-is_empty-clause-refused : goal.returns-then-is_empty-clause-refused
+returns-then-is_empty-clause-refused g c =
+    let s = c.self.inside in
+    subst (λ (x : Site). IsUndoRefusal (undo x) c.nothing_to_undo.result) (ap (λ (v : Numbered). v.site) c.self.view_is)
+    (nothing_undone (site_of s.editor s.untold s.seen s.sent.items s.history s.shared s.in_flight) s.history.done c.done.result.now c.nothing_to_undo.result refl c.done.ensures
+    (sym c.is_empty.ensures ∙ c.if-is_empty.true) c.nothing_to_undo.ensures)
+
+pub returns-then-is_empty-clause-memory : goal.returns-then-is_empty-clause-memory
+returns-then-is_empty-clause-memory g c = λ want. absurd (not_memory c.self.inside.shared c.nothing_to_undo.result c.nothing_to_undo.ensures want)
+
+pub returns-then-is_err-clause-memory : goal.returns-then-is_err-clause-memory
+returns-then-is_err-clause-memory g c = λ _.
+    let s = c.self.inside in
+    subst (λ (x : Site). IsOk (undo x)) (ap (λ (v : Numbered). v.site) c.self.view_is)
+    (undoes (site_of s.editor s.untold s.seen s.sent.items s.history s.shared s.in_flight) s.history.done c.done.result.now refl c.done.ensures (sym c.is_empty.ensures ∙ c.if-is_empty.false))
+
+pub returns-in_default-of-clause-memory : goal.returns-in_default-of-clause-memory
+returns-in_default-of-clause-memory g c = λ _.
+    let s = c.self.inside in
+    subst (λ (x : Site). IsOk (undo x)) (ap (λ (v : Numbered). v.site) c.self.view_is)
+    (undoes (site_of s.editor s.untold s.seen s.sent.items s.history s.shared s.in_flight) s.history.done c.done.result.now refl c.done.ensures (sym c.is_empty.ensures ∙ c.if-is_empty.false))
+
+pub returns-then-is_err-2-clause-memory : goal.returns-then-is_err-2-clause-memory
+returns-then-is_err-2-clause-memory g c = λ _.
+    let s = c.self.inside in
+    subst (λ (x : Site). IsOk (undo x)) (ap (λ (v : Numbered). v.site) c.self.view_is)
+    (undoes (site_of s.editor s.untold s.seen s.sent.items s.history s.shared s.in_flight) s.history.done c.done.result.now refl c.done.ensures (sym c.is_empty.ensures ∙ c.if-is_empty.false))
+
+pub unreachable-requires : goal.unreachable-requires
+unreachable-requires g c =
     let s = c.self.inside in
     let none = subst (λ (es : List Entry). slice_get es (length es - 1) ≡ None) c.reserve.ensures.done (sym c.in_default.ensures) in
-    subst (λ (x : Site). IsUndoRefusal (undo x) c.nothing_to_undo.result) (ap (λ (v : Numbered). v.site) c.self.view_is)
-    (nothing_undone (site_of s.editor s.untold s.seen s.sent.items s.history s.shared s.in_flight) s.history.done c.nothing_to_undo.result refl none c.nothing_to_undo.ensures)
+    last_is_lent s.history.done c.done.result.now c.done.ensures (sym c.is_empty.ensures ∙ c.if-is_empty.false) none
 
 pub of-requires : goal.of-requires
 of-requires g c =
@@ -106,12 +133,6 @@ returns-clause-steps g c =
     let same = roomy_same s.editor s.untold s.seen s.sent.items s.history s.shared s.in_flight c.self.invariant room c.reserve.ensures.done c.reserve.ensures.undone in
     subst (λ (x : Site). c.revert.new.steps ≤ c.args.steps.now + steps_over (undoing x.unsent) x.replica.items) (same ∙ ap (λ (v : Numbered). v.site) c.self.view_is)
     (undo_counts s.editor s.untold s.seen s.sent.items room s.shared s.in_flight is c.in-Some.last.now (sym c.in-Some.ensures) c.args.steps.now c.revert.new.steps c.revert.ensures.steps)
-
-pub invariant_of-self-in_default : goal.invariant_of-self-in_default
-invariant_of-self-in_default g c =
-    let s = c.self.inside in
-    let room = c.reserve.new.self in
-    roomy_is s.editor s.untold s.seen s.sent.items s.history s.shared s.in_flight c.self.invariant room c.reserve.ensures.done c.reserve.ensures.undone
 
 pub invariant_of-self-in_default-of : goal.invariant_of-self-in_default-of
 invariant_of-self-in_default-of g c =

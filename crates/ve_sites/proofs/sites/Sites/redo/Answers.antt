@@ -1,6 +1,7 @@
 use Rattle.std.specs.Prelude.{vec_len}
-use Rattle.std.proofs.Common.{rules, arith, length, ◌≡◌, ◌≤◌, ◌+◌, Ok, OnOk, IfErr}
+use Rattle.std.proofs.Common.{rules, arith, length, ◌≡◌, ◌≤◌, ◌+◌, Ok, OnOk, IfErr, IsOk}
 use Rattle.model_site.specs.Site.{Site, redo}
+use Rattle.model_site.specs.declared.site_fault.RedoFault.TheVariants as fault
 use Rattle.ve_editor.specs.Counted.{steps_over}
 use Rattle.ve_site.specs.Counted.{redoing}
 use Rattle.ve_site.specs.Refusal.{IsRedoRefusal}
@@ -51,3 +52,10 @@ returns-clause-steps g c =
     let p : Placed c.args.self.now s.values s.first.items s.server s.members.items c.args.k c.index_mut.result.now =
     record { holds = c.self.invariant; view = c.self.view_is; inside = c.requires.site; is = c.index_mut.ensures.value } in
     told p (λ (x : Site). c.redo.new.steps ≤ c.args.steps.now + steps_over (redoing x.undone) x.replica.items) c.redo.ensures.steps
+
+pub returns-clause-memory : goal.returns-clause-memory
+returns-clause-memory g c =
+    let s = c.self.inside in
+    let p : Placed c.args.self.now s.values s.first.items s.server s.members.items c.args.k c.index_mut.result.now =
+    record { holds = c.self.invariant; view = c.self.view_is; inside = c.requires.site; is = c.index_mut.ensures.value } in
+    told p (λ (x : Site). IfErr c.redo.result (λ why. why ≡ fault.Memory → IsOk (redo x))) c.redo.ensures.memory

@@ -1,6 +1,7 @@
 use Rattle.std.specs.Prelude.{vec_len}
-use Rattle.std.proofs.Common.{rules, arith, length, ◌≡◌, IfErr}
+use Rattle.std.proofs.Common.{rules, arith, length, ◌≡◌, IfErr, IsOk}
 use Rattle.model_site.specs.Site.{Site, send}
+use Rattle.model_site.specs.declared.site_fault.SendFault.TheVariants as fault
 use Rattle.ve_site.specs.Refusal.{IsSendRefusal}
 use Rattle.ve_sites.specs.Senders.{HasGone}
 use Rattle.ve_sites.specs.Turns.{HasSent}
@@ -38,3 +39,10 @@ returns-clause-refused c =
     let p : Placed c.args.self.now s.values s.first.items s.server s.members.items c.args.k c.index_mut.result.now =
     record { holds = c.self.invariant; view = c.self.view_is; inside = c.requires.site; is = c.index_mut.ensures.value } in
     told p (λ (x : Site). IfErr c.send.result (IsSendRefusal (send x))) c.send.ensures.refused
+
+pub returns-clause-memory : goal.returns-clause-memory
+returns-clause-memory c =
+    let s = c.self.inside in
+    let p : Placed c.args.self.now s.values s.first.items s.server s.members.items c.args.k c.index_mut.result.now =
+    record { holds = c.self.invariant; view = c.self.view_is; inside = c.requires.site; is = c.index_mut.ensures.value } in
+    told p (λ (x : Site). IfErr c.send.result (λ why. why ≡ fault.Memory → IsOk (send x))) c.send.ensures.memory

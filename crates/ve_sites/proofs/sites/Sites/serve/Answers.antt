@@ -3,7 +3,7 @@ use Rattle.std.proofs.Common.{rules, arith, length, ◌≡◌, slice_get, refl, 
 use Rattle.ve_server.specs.Fed.{submission_of}
 use Rattle.ve_sites.specs.Senders.{Sender}
 use Rattle.ve_sites.proofs.PlacedLemmas.{one_place, room}
-use Rattle.ve_sites.proofs.TurnLemmas.{idle_server, serve_may, served_stays, served_tells}
+use Rattle.ve_sites.proofs.TurnLemmas.{busy_server, idle_server, serve_may, served_stays, served_tells}
 use Rattle.ve_sites.proofs.sites.Sites.serve.Goals as goal
 
 pub index-requires : goal.index-requires
@@ -29,6 +29,18 @@ returns-in_default-clause-served c =
     let ms = s.members.items in
     let inside = room c.args.self.now v f v2 ms c.args.k c.self.invariant c.self.view_is c.requires.site in
     idle_server c.args.self.now v f v2 ms c.self.invariant c.self.view_is c.args.k c.index.result.now inside c.index.ensures c.index.result.now.number refl (sym c.in_default.ensures.next)
+
+pub returns-in_err-served-clause-nothing : goal.returns-in_err-served-clause-nothing
+returns-in_err-served-clause-nothing c = λ none.
+    let s = c.self.inside in
+    let v = s.values in
+    let f = s.first.items in
+    let v2 = s.server in
+    let ms = s.members.items in
+    let inside = room c.args.self.now v f v2 ms c.args.k c.self.invariant c.self.view_is c.requires.site in
+    absurd
+    (busy_server c.args.self.now v f v2 ms c.self.invariant c.self.view_is c.args.k c.index.result.now inside c.index.ensures c.index.result.now.number refl
+    (submission_of c.in-Some.submit.now) (sym c.in-Some.ensures.next) none)
 
 pub serve-requires-clause-base : goal.serve-requires-clause-base
 serve-requires-clause-base c =

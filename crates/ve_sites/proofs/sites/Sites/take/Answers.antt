@@ -8,7 +8,7 @@ use Rattle.ve_sites.specs.Senders.{Sender}
 use Rattle.ve_sites.specs.Shared.{site_at}
 use Rattle.ve_sites.specs.Turns.{steps_of_next}
 use Rattle.ve_sites.proofs.PlacedLemmas.{Placed, one_place, room, site_now}
-use Rattle.ve_sites.proofs.TurnLemmas.{idle_site, may_take, next_taken, taken_stays, taken_tells, within_queues}
+use Rattle.ve_sites.proofs.TurnLemmas.{busy_site, idle_site, may_take, next_taken, taken_stays, taken_tells, within_queues}
 use Rattle.ve_sites.proofs.sites.Sites.take.Goals as goal
 
 pub index-requires : goal.index-requires
@@ -57,6 +57,18 @@ take-requires g c =
     let same : c.index.result.now ≡ m = one_place ms c.args.k c.index.result.now m inside c.index.ensures c.index_mut.ensures.value in
     let number = c.number-number.ensures ∙ ap (λ (x : Sender). x.number) same in
     record { may = may_take c.args.self.now v f v2 ms c.self.invariant c.self.view_is c.args.k m inside c.index_mut.ensures.value c.number-number.result number (feed_of c.in-Some.feed.now) c.in-Some.ensures }
+
+pub returns-in_err-taken-clause-nothing : goal.returns-in_err-taken-clause-nothing
+returns-in_err-taken-clause-nothing g c = λ none.
+    let s = c.self.inside in
+    let v = s.values in
+    let f = s.first.items in
+    let v2 = s.server in
+    let ms = s.members.items in
+    let inside = room c.args.self.now v f v2 ms c.args.k c.self.invariant c.self.view_is c.requires.site in
+    absurd
+    (busy_site c.args.self.now v f v2 ms c.self.invariant c.self.view_is c.args.k c.index.result.now inside c.index.ensures c.number-number.result c.number-number.ensures
+    (feed_of c.in-Some.feed.now) c.in-Some.ensures none)
 
 pub returns-in_err-taken-clause-steps : goal.returns-in_err-taken-clause-steps
 returns-in_err-taken-clause-steps g c =

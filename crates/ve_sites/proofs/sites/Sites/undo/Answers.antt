@@ -1,6 +1,7 @@
 use Rattle.std.specs.Prelude.{vec_len}
-use Rattle.std.proofs.Common.{rules, arith, length, ◌≡◌, ◌≤◌, ◌+◌, Ok, OnOk, IfErr}
+use Rattle.std.proofs.Common.{rules, arith, length, ◌≡◌, ◌≤◌, ◌+◌, Ok, OnOk, IfErr, IsOk}
 use Rattle.model_site.specs.Site.{Site, undo}
+use Rattle.model_site.specs.declared.site_fault.UndoFault.TheVariants as fault
 use Rattle.ve_editor.specs.Counted.{steps_over}
 use Rattle.ve_site.specs.Counted.{undoing}
 use Rattle.ve_site.specs.Refusal.{IsUndoRefusal}
@@ -51,3 +52,10 @@ returns-clause-steps g c =
     let p : Placed c.args.self.now s.values s.first.items s.server s.members.items c.args.k c.index_mut.result.now =
     record { holds = c.self.invariant; view = c.self.view_is; inside = c.requires.site; is = c.index_mut.ensures.value } in
     told p (λ (x : Site). c.undo.new.steps ≤ c.args.steps.now + steps_over (undoing x.unsent) x.replica.items) c.undo.ensures.steps
+
+pub returns-clause-memory : goal.returns-clause-memory
+returns-clause-memory g c =
+    let s = c.self.inside in
+    let p : Placed c.args.self.now s.values s.first.items s.server s.members.items c.args.k c.index_mut.result.now =
+    record { holds = c.self.invariant; view = c.self.view_is; inside = c.requires.site; is = c.index_mut.ensures.value } in
+    told p (λ (x : Site). IfErr c.undo.result (λ why. why ≡ fault.Memory → IsOk (undo x))) c.undo.ensures.memory
