@@ -12,6 +12,7 @@ use std::alloc::Global;
 use ve_base::{Bytes, Memory};
 use ve_internal::table;
 use ve_items::Linear;
+use ve_origin::Known;
 use ve_store::Store;
 
 /// Appends the nodes of a list, all written afresh: no origin is looked at. Each body is written at
@@ -39,6 +40,6 @@ pub fn write_fresh(
         first: None,
     };
     let mut text = Bytes::new(alloc);
-    put_list(alloc, &mut text, page)?;
+    put_list(alloc, &mut text, page, Known::nothing())?;
     out.push(text.as_slice())
 }

@@ -7,7 +7,8 @@
 //! - `write` appends the page that a list gives after the page that was first read:
 //!   model_page_write's `write`. A node that is as it was read is copied; that is asked once for
 //!   each node on the way down (`Originals` in specs/). Items that were found alike in a node aren't
-//!   compared again for the nodes in it (`Known` of ve_origin).
+//!   compared again for the nodes in it (`Known` of ve_origin). `write_knowing` does the same for a
+//!   caller that knows of more items that are alike.
 //! - `write_fresh` appends the nodes of a list without origins: model_page_write's `fresh`.
 //! - `put_list`, `put_blocks` and `put_body` do the same for a writer that is told where bodies
 //!   stand (`Told`). One walk goes forward over the items, and calls itself for an element in an
@@ -49,4 +50,4 @@ pub use first_page::{First, Page};
 pub use fresh::write_fresh;
 pub use inline::reads_inline;
 pub use lists::{put_body, put_list};
-pub use page::write;
+pub use page::{write, write_knowing};
