@@ -16,4 +16,6 @@ pub mod BeforeLemmas
 pub mod OriginalLemmas
 pub mod BodyLemmas
 pub mod WholeLemmas
+pub mod ReferringLemmas
+mod ReferringExamples
 mod FreshExamples

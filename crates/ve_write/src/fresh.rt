@@ -7,10 +7,10 @@ ghost use Rattle.model_page_write.specs.PageText.{fresh};
 ghost use Rattle.ve_write.specs.Siblings.{AllCite};
 
 use crate::bodies::body_texts;
+use crate::references::references;
 use crate::{Page, put_list};
 use std::alloc::Global;
 use ve_base::{Bytes, Memory};
-use ve_internal::table;
 use ve_items::Linear;
 use ve_origin::Known;
 use ve_store::Store;
@@ -30,7 +30,7 @@ pub fn write_fresh(
     ensures err { OnErr result (out.new ≡ out.old) }
     ensures utf8 { OnOk result (IsUtf8 out.old → IsUtf8 out.new) }
 {
-    let refs = table(alloc, list, store)?;
+    let refs = references(alloc, list, store)?;
     let texts = body_texts(alloc, list, store, &refs)?;
     let page = Page {
         list,

@@ -9,10 +9,10 @@ ghost use Rattle.ve_write.specs.Originals.{opened_over, IsFirst};
 ghost use Rattle.ve_write.specs.Siblings.{AllCite};
 
 use crate::bodies::body_texts;
+use crate::references::references;
 use crate::{First, Page, put_list};
 use std::alloc::Global;
 use ve_base::{Bytes, Memory};
-use ve_internal::table;
 use ve_items::Linear;
 use ve_origin::{Known, Origins};
 use ve_store::Store;
@@ -68,7 +68,7 @@ pub fn write_knowing<'a>(
     ensures err { OnErr result (out.new ≡ out.old) }
     ensures utf8 { OnOk result (IsUtf8 out.old → IsUtf8 out.new) }
 {
-    let refs = table(alloc, list, store)?;
+    let refs = references(alloc, list, store)?;
     let texts = body_texts(alloc, list, store, &refs)?;
     let first = Some(First { origins });
     let page = Page {
