@@ -9,7 +9,8 @@
 //!   each node on the way down (`Originals` in specs/). Items that were found alike in a node aren't
 //!   compared again for the nodes in it (`Known` of ve_origin). `write_knowing` does the same for a
 //!   caller that knows of more items that are alike. The list isn't read for its references where
-//!   no value of the store is a head with a key (`Referring`).
+//!   no value of the store is a head with a key (`Referring`). A kept node ends after as many items
+//!   as it had, which its origin tells.
 //! - `write_fresh` appends the nodes of a list without origins: model_page_write's `fresh`.
 //! - `put_list`, `put_blocks` and `put_body` do the same for a writer that is told where bodies
 //!   stand (`Told`). One walk goes forward over the items, and calls itself for an element in an
