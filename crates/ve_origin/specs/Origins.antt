@@ -1,5 +1,5 @@
 -- The borrowed parts of the page that was first read, and the answers about it.
-use Rattle.std.specs.Prelude.{◌≡◌, ◌≤◌, ◌<◌, ℕ, Bool, false, List, map, take, slice_get, Some, All, IsCharBoundary}
+use Rattle.std.specs.Prelude.{◌≡◌, ◌≤◌, ◌<◌, ℕ, ◌-◌, Bool, false, List, map, take, slice_get, Option, Some, None, All, IsCharBoundary}
 use Rattle.std.specs.List.{list_any}
 use Rattle.ve_base.specs.declared.value.Value.{Value}
 use Rattle.model_items.specs.declared.item.Item.{Item}
@@ -19,6 +19,11 @@ source_span s = record { from = s.from; to = s.to }
 -- the spans of the origins
 abbrev pub spans : List OriginRow → List SourceSpan
 spans rows = map (λ (r : OriginRow). source_span r.span) rows
+
+-- how many items the node of a row had
+abbrev pub items_had : Option OriginRow → ℕ
+items_had None = 0
+items_had (Some row) = row.to - row.from
 
 -- The page that was first read: its text, where its body stands, a row for each origin, the items
 -- of its list, and the table of their references.

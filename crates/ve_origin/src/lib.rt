@@ -8,7 +8,7 @@
 //!   in the list that was first read. `Origins` borrows the page, that table, that list and the
 //!   table of its references together (specs/Origins.antt).
 //! - `Origins::head` and `tail` are the page before and after its body, and `part` is
-//!   model_page_write's `part_at`.
+//!   model_page_write's `part_at`. `count` says how many items the node of an origin had.
 //! - `Origins::kept` is model_page_write's `is_kept` (specs/Kept.antt: the node at a position, and
 //!   the conditions on the row of an origin). The positions of values are compared in place of
 //!   values, so its clause holds over every list of distinct values. Rows.antt and Bodies.antt in

@@ -2,7 +2,7 @@
 ghost use Rattle.std.specs.Prelude.{◌≡◌, ◌≤◌, ◌<◌, ◌↔◌, IsTrue, length, take, drop, slice_get, Some};
 ghost use Rattle.model_page_write.specs.PageText.{part_at};
 ghost use Rattle.ve_origin.specs.Known.{IsKnown, IsCompared};
-ghost use Rattle.ve_origin.specs.Origins.{spans, first_read, FirstRead, IsCut, IsRow, AreRows, Keeps};
+ghost use Rattle.ve_origin.specs.Origins.{spans, first_read, items_had, FirstRead, IsCut, IsRow, AreRows, Keeps};
 
 use crate::carried::{Side, all_carry_same};
 use crate::compare::alike;
@@ -117,6 +117,15 @@ impl<'a> Origins<'a> {
     {
         let span = self.row(k).span;
         &self.page[span.from..span.to]
+    }
+
+    /// How many items the node of an origin had.
+    pub fn count(&self, k: u32) -> usize
+        requires { k < length self.now.rows }
+        ensures { result ≡ items_had (slice_get self.now.rows k) }
+    {
+        let row = self.row(k);
+        row.to - row.from
     }
 
     /// Whether the node that begins at a position of a list is as it was first read. It has the

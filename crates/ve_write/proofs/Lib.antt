@@ -14,6 +14,9 @@ pub mod CopiedLemmas
 pub mod LawfulLemmas
 pub mod BeforeLemmas
 pub mod OriginalLemmas
+pub mod EndLemmas
 pub mod BodyLemmas
 pub mod WholeLemmas
+pub mod ReferringLemmas
+mod ReferringExamples
 mod FreshExamples

@@ -25,7 +25,7 @@ use Rattle.ve_write.specs.declared.first_page.First.{First}
 pub all_cite : (values : List Value) (items : List Item) → AllCite values items → All (CitesWell values) items
 all_cite values items h k d less = h k (get_or items k d) (slice_get-get_or items k d less)
 
-row_at : {A : Type 0} (rows : List A) (k : ℕ) → k < length rows → (row : A) × (slice_get rows k ≡ Some row)
+pub row_at : {A : Type 0} (rows : List A) (k : ℕ) → k < length rows → (row : A) × (slice_get rows k ≡ Some row)
 row_at [] k less = absurd (omega (arith, less))
 row_at (row ∷ rows) zero less = (row, refl)
 row_at (row ∷ rows) (suc k) less = row_at rows k (omega (arith, less))

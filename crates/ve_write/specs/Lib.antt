@@ -7,3 +7,4 @@ pub mod Inline
 pub mod Originals
 pub mod Told
 pub mod Begun
+pub mod Referring

@@ -130,7 +130,7 @@ fn put_kept(
     else {
         return Ok(None);
     };
-    let Some(text) = original_at(page, at, origin, known) else {
+    let Some(original) = original_at(page, at, origin, known) else {
         return Ok(None);
     };
     let bare = is_bare_at(alloc, page, at, generated, before)?;
@@ -138,10 +138,11 @@ fn put_kept(
         return Ok(None);
     }
     put_white(out, page.store, pre)?;
-    out.push(text.as_bytes())?;
-    let end = siblings_end(page.list, at + 1);
-    let at = after_siblings(page.list, end).at;
-    Ok(Some(Step { at, bare }))
+    out.push(original.text.as_bytes())?;
+    Ok(Some(Step {
+        at: at + original.count,
+        bare,
+    }))
 }
 
 /// Appends a block leaf that cites this head, and nothing for the internal list.

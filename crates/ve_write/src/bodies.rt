@@ -87,7 +87,7 @@ fn body_text(alloc: Global, list: &Linear, store: &Store, at: usize) -> Result<T
 }
 
 /// The text of each body that a reference carries, by the position of the reference. `refs` is the
-/// table of the list.
+/// table of the list, which isn't read where there are no references.
 pub fn body_texts(
     alloc: Global,
     list: &Linear,
@@ -100,6 +100,9 @@ pub fn body_texts(
     ensures { IfOk result (λ texts.
         AreBodyTexts (plain_list store.now list.now.items) (text_of texts)) }
 {
+    if refs.as_slice().is_empty() {
+        return Ok(IndexMap::new(alloc));
+    }
     let notes = notes_at(list);
     let mut texts = IndexMap::new(alloc);
     for row in refs.as_slice() {

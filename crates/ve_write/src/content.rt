@@ -76,7 +76,7 @@ fn put_inline_leaf(
     ensures utf8 { OnOk result (IsUtf8 out.old → IsUtf8 out.new) }
 {
     match original_at(page, at, leaf.origin, Known::nothing()) {
-        Some(text) => out.push(text.as_bytes()),
+        Some(original) => out.push(original.text.as_bytes()),
         None => put_cited_leaf(alloc, out, page, at, leaf.head, leaf.kind),
     }
 }

@@ -7,11 +7,12 @@ ghost use Rattle.model_page_write.specs.PageText.{fresh};
 ghost use Rattle.ve_write.specs.Siblings.{AllCite};
 
 use crate::bodies::body_texts;
+use crate::references::references;
 use crate::{Page, put_list};
 use std::alloc::Global;
 use ve_base::{Bytes, Memory};
-use ve_internal::table;
 use ve_items::Linear;
+use ve_origin::Known;
 use ve_store::Store;
 
 /// Appends the nodes of a list, all written afresh: no origin is looked at. Each body is written at
@@ -29,7 +30,7 @@ pub fn write_fresh(
     ensures err { OnErr result (out.new ≡ out.old) }
     ensures utf8 { OnOk result (IsUtf8 out.old → IsUtf8 out.new) }
 {
-    let refs = table(alloc, list, store)?;
+    let refs = references(alloc, list, store)?;
     let texts = body_texts(alloc, list, store, &refs)?;
     let page = Page {
         list,
@@ -39,6 +40,6 @@ pub fn write_fresh(
         first: None,
     };
     let mut text = Bytes::new(alloc);
-    put_list(alloc, &mut text, page)?;
+    put_list(alloc, &mut text, page, Known::nothing())?;
     out.push(text.as_slice())
 }

@@ -1,6 +1,7 @@
 // Nodes that are as they were in the page that was first read.
-ghost use Rattle.std.specs.Prelude.{◌≡◌, ◌≤◌, ◌<◌, length, drop, option_map};
+ghost use Rattle.std.specs.Prelude.{◌≡◌, ◌≤◌, ◌<◌, ◌+◌, length, drop, option_map, IfSome};
 ghost use Rattle.model_items.specs.Plain.{plain_list};
+ghost use Rattle.ve_write.specs.After.{IsNode};
 ghost use Rattle.ve_write.specs.Siblings.{AllCite};
 ghost use Rattle.ve_write.specs.Originals.{origin_of, originals_of, read_of};
 ghost use Rattle.ve_write.specs.Told.{IsKnownOf, LendsFirst, StandsBefore};
@@ -31,22 +32,34 @@ pub fn compared_at(page: Page<'_, '_>, at: usize, known: Known) -> Known
     first.origins.compared(k, page.list, at, page.refs, known)
 }
 
-/// The bytes that the node at a position was, if it is kept; its opening has this origin. Items that
-/// are known to be alike aren't compared again.
+/// A node as it was first read: its bytes, and how many items it has.
+#[derive(Clone, Copy)]
+pub struct Original<'b> {
+    pub text: &'b str,
+    pub count: usize,
+}
+
+/// The node at a position as it was first read, if it is kept; its opening has this origin. Items
+/// that are known to be alike aren't compared again, and its end is found without a walk.
 pub fn original_at<'b>(
     page: Page<'_, 'b>,
     at: usize,
     origin: Option<u32>,
     known: Known,
-) -> Option<&'b str>
+) -> Option<Original<'b>>
     requires cites { AllCite page.store.now page.list.now.items }
     requires lent { LendsFirst page }
     requires before { StandsBefore page at }
     requires within { at ≤ length page.list.now.items }
     requires origin { origin_of (drop at (plain_list page.store.now page.list.now.items)) ≡ origin }
     requires known { IsKnownOf page known }
-    ensures { option_map (λ text. text.now) result
+    ensures text { option_map (λ original. original.text.now) result
         ≡ originals_of (read_of page.entry.first) page.entry.store.now page.entry.list.now.items at }
+    ensures more { IfSome result (λ original. 0 < original.count) }
+    ensures within { IfSome result (λ original.
+        at + original.count ≤ length page.entry.list.now.items) }
+    ensures node { IfSome result (λ original.
+        IsNode page.entry.list.now.items at (at + original.count)) }
 {
     // its type keeps that its values are distinct, which `len` tells
     let _values = page.store.len();
@@ -63,5 +76,8 @@ pub fn original_at<'b>(
     if !first.origins.kept_after(k, page.list, at, page.refs, known) {
         return None;
     }
-    Some(first.origins.part(k))
+    Some(Original {
+        text: first.origins.part(k),
+        count: first.origins.count(k),
+    })
 }

@@ -7,7 +7,10 @@
 //! - `write` appends the page that a list gives after the page that was first read:
 //!   model_page_write's `write`. A node that is as it was read is copied; that is asked once for
 //!   each node on the way down (`Originals` in specs/). Items that were found alike in a node aren't
-//!   compared again for the nodes in it (`Known` of ve_origin).
+//!   compared again for the nodes in it (`Known` of ve_origin). `write_knowing` does the same for a
+//!   caller that knows of more items that are alike. The list isn't read for its references where
+//!   no value of the store is a head with a key (`Referring`). A kept node ends after as many items
+//!   as it had, which its origin tells.
 //! - `write_fresh` appends the nodes of a list without origins: model_page_write's `fresh`.
 //! - `put_list`, `put_blocks` and `put_body` do the same for a writer that is told where bodies
 //!   stand (`Told`). One walk goes forward over the items, and calls itself for an element in an
@@ -19,9 +22,9 @@
 //!   stand in (`Siblings`, `After`). model_page_write reads a list from its end; here a walk goes
 //!   forward (`ending_at`).
 //!
-//! `BodyTexts`, `Begun` and `Passing` serve private functions. An `Err` is want of memory: `write`
-//! and `write_fresh` then leave the buffer as it was, the others may leave a part. There are no
-//! laws here: reading back is a law of model_page_law.
+//! `BodyTexts`, `Begun`, `Passing` and `Referring` serve private functions. An `Err` is want of
+//! memory: `write`, `write_knowing` and `write_fresh` then leave the buffer as it was, the others may
+//! leave a part. There are no laws here: reading back is a law of model_page_law.
 //!
 //! The caller tells where the node of each origin stood (`IsFirst`), so whether a node is kept is
 //! asked without a walk. An origin that the page hadn't keeps nothing. Bytes that were UTF-8 still
@@ -39,6 +42,7 @@ mod inline;
 mod kept;
 mod lists;
 mod page;
+mod references;
 mod run;
 mod tags;
 
@@ -49,4 +53,4 @@ pub use first_page::{First, Page};
 pub use fresh::write_fresh;
 pub use inline::reads_inline;
 pub use lists::{put_body, put_list};
-pub use page::write;
+pub use page::{write, write_knowing};

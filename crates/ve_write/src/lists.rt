@@ -7,7 +7,7 @@ ghost use Rattle.model_page.specs.References.{body_after};
 ghost use Rattle.model_page_write.specs.PageText.{html_of};
 ghost use Rattle.ve_write.specs.Siblings.{AllCite};
 ghost use Rattle.ve_write.specs.Originals.{list_text, read_of};
-ghost use Rattle.ve_write.specs.Told.{text_of, AreBodyTexts, LendsFirst};
+ghost use Rattle.ve_write.specs.Told.{text_of, AreBodyTexts, IsKnownOf, LendsFirst};
 
 use crate::after_siblings;
 use crate::blocks::put_blocks;
@@ -21,19 +21,26 @@ use ve_origin::Known;
 use ve_store::Store;
 
 /// Appends the whole list: the bytes of nodes that are kept, and the text of all others. The texts
-/// that are borrowed with it have to be those of all bodies that its references carry.
-pub fn put_list(alloc: Global, out: &mut Bytes, page: Page<'_, '_>) -> Result<(), Memory>
+/// that are borrowed with it have to be those of all bodies that its references carry. Items that
+/// are known to be as they were first read aren't compared again.
+pub fn put_list(
+    alloc: Global,
+    out: &mut Bytes,
+    page: Page<'_, '_>,
+    known: Known,
+) -> Result<(), Memory>
     requires cites { AllCite page.store.now page.list.now.items }
     requires refers { all_refer (plain_list page.store.now page.list.now.items) ≡ true }
     requires lawful { Lawful (plain_list page.store.now page.list.now.items) }
     requires lent { LendsFirst page }
     requires texts { AreBodyTexts (plain_list page.store.now page.list.now.items)
         (text_of page.texts.now) }
+    requires known { IsKnownOf page known }
     ensures text { OnOk result (out.new ≡ out.old ++ list_text (read_of page.entry.first) page.entry.store.now
         (plain_list page.entry.store.now page.entry.list.now.items)) }
     ensures utf8 { OnOk result (IsUtf8 out.old → IsUtf8 out.new) }
 {
-    put_blocks(alloc, out, page, 0, Known::nothing())?;
+    put_blocks(alloc, out, page, 0, known)?;
     Ok(())
 }
 

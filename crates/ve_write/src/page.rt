@@ -4,16 +4,17 @@ ghost use Rattle.model_items.specs.Law.{Lawful};
 ghost use Rattle.model_items.specs.Plain.{plain_list};
 ghost use Rattle.model_page.specs.Editable.{all_refer};
 ghost use Rattle.model_page_write.specs.PageText.{write};
+ghost use Rattle.ve_origin.specs.Known.{AreAlike};
 ghost use Rattle.ve_write.specs.Originals.{opened_over, IsFirst};
 ghost use Rattle.ve_write.specs.Siblings.{AllCite};
 
 use crate::bodies::body_texts;
+use crate::references::references;
 use crate::{First, Page, put_list};
 use std::alloc::Global;
 use ve_base::{Bytes, Memory};
-use ve_internal::table;
 use ve_items::Linear;
-use ve_origin::Origins;
+use ve_origin::{Known, Origins};
 use ve_store::Store;
 
 /// Appends the page that a list gives, after the page that was first read: its text before the
@@ -42,7 +43,32 @@ pub fn write<'a>(
     ensures err { OnErr result (out.new ≡ out.old) }
     ensures utf8 { OnOk result (IsUtf8 out.old → IsUtf8 out.new) }
 {
-    let refs = table(alloc, list, store)?;
+    write_knowing(alloc, list, store, origins, Known::nothing(), out)
+}
+
+/// As `write`, for a caller that knows some items to be as they were first read: the run has to be
+/// alike in this list and in the one that was first read. It isn't compared again.
+pub fn write_knowing<'a>(
+    alloc: Global,
+    list: &Linear,
+    store: &Store,
+    origins: &'a Origins<'a>,
+    known: Known,
+    out: &mut Bytes,
+) -> Result<(), Memory>
+    requires cites { AllCite store.now list.now.items }
+    requires refers { all_refer (plain_list store.now list.now.items) ≡ true }
+    requires lawful { Lawful (plain_list store.now list.now.items) }
+    requires first { IsFirst store.now origins.now }
+    requires known { AreAlike list.now.items origins.now.items known.alike }
+    ensures ok { OnOk result (
+        out.new
+        ≡ out.old
+        ++ write (opened_over store.now origins.now) (plain_list store.now list.now.items)) }
+    ensures err { OnErr result (out.new ≡ out.old) }
+    ensures utf8 { OnOk result (IsUtf8 out.old → IsUtf8 out.new) }
+{
+    let refs = references(alloc, list, store)?;
     let texts = body_texts(alloc, list, store, &refs)?;
     let first = Some(First { origins });
     let page = Page {
@@ -54,7 +80,7 @@ pub fn write<'a>(
     };
     let mut text = Bytes::new(alloc);
     text.push(origins.head().as_bytes())?;
-    put_list(alloc, &mut text, page)?;
+    put_list(alloc, &mut text, page, known)?;
     text.push(origins.tail().as_bytes())?;
     out.push(text.as_slice())
 }

@@ -1,4 +1,4 @@
-use Rattle.std.proofs.Common.{◌++◌, refl, sym, ap, ◌∙◌, subst, IsUtf8}
+use Rattle.std.proofs.Common.{◌++◌, ◌+◌, refl, sym, ap, ◌∙◌, subst, IsUtf8}
 use Rattle.std.proofs.lemmas.Str.{IsUtf8-append}
 use Rattle.ve_write.proofs.SiblingLemmas.{opening_outer}
 use Rattle.ve_write.specs.Told.{known_of}
@@ -21,12 +21,14 @@ returns-then-needs_tags-clause-afresh c =
 
 pub returns-clause-outer : goal.returns-clause-outer
 returns-clause-outer c =
-    opening_outer c.args.page.list.now.items c.args.at c.get.result _ _ _ _ _ _ c.siblings_end-end.result c.after_siblings-at.result c.get.ensures c.in-Opening.is c.siblings_end-end.ensures.end c.after_siblings-at.ensures.follows
+    let n = c.in-Some.ensures.node in
+    opening_outer c.args.page.list.now.items c.args.at c.get.result _ _ _ _ _ _ n.end (record { pre = n.pre; at = c.args.at + c.in-Some.original.count }) c.get.ensures c.in-Opening.is n.inside n.follows
 
 pub returns-clause-text : goal.returns-clause-text
 returns-clause-text c =
-    kept_put (known_of c.args.page) c.args.at _ _ _ _ _ _ c.args.before c.in_ok-bare.bare c.in-Some.text.now c.siblings_end-end.result c.after_siblings-at.result c.args.out.now c.put_white.new.out _ c.in-Opening.ensures
-    (sym c.in-Some.ensures) c.in_ok-bare.ensures (sym c.needs_tags.ensures ∙ c.if-needs_tags.false) c.siblings_end-end.ensures.end c.after_siblings-at.ensures.follows c.in_ok-put_white.ensures.text
+    let n = c.in-Some.ensures.node in
+    kept_put (known_of c.args.page) c.args.at _ _ _ _ _ _ c.args.before c.in_ok-bare.bare c.in-Some.original.text.now n.end (record { pre = n.pre; at = c.args.at + c.in-Some.original.count }) c.args.out.now c.put_white.new.out _ c.in-Opening.ensures
+    (sym c.in-Some.ensures.text) c.in_ok-bare.ensures (sym c.needs_tags.ensures ∙ c.if-needs_tags.false) n.inside n.follows c.in_ok-put_white.ensures.text
     (c.in_ok-push.ensures.ok ∙ ap (λ l. c.put_white.new.out ++ l) c.as_bytes.ensures.value)
 
 pub returns-clause-utf8 : goal.returns-clause-utf8

@@ -1,9 +1,14 @@
-use Rattle.std.proofs.Common.{sym, ◌∙◌}
+use Rattle.std.proofs.Common.{length, sym, ◌∙◌, arith, eqb-true}
 use Rattle.model_items.specs.Plain.{plain_list}
 use Rattle.ve_write.proofs.BodyLemmas.{no_texts}
 use Rattle.ve_write.proofs.TextLemmas.{row_within, row_passed, row_put, texts_are}
 use Rattle.ve_write.proofs.bodies.body_texts.Goals as goal
 use Rattle.ve_write.proofs.bodies.body_texts.Goals.{in-Some+in_ok-body_text+in_ok-insert+in-Some-1, in-Some+in_ok-body_text+in_ok-insert+in-None-1, in_default}
+
+pub returns-then-is_empty : goal.returns-then-is_empty
+returns-then-is_empty c =
+    let none = eqb-true (length c.as_slice.result.now) 0 (sym c.is_empty.ensures ∙ c.if-is_empty.true) in
+    texts_are (plain_list c.args.store.now c.args.list.now.items) c.as_slice.result.now 0 c.new.result (c.as_slice.ensures ∙ c.requires.refs) (omega (arith, none)) (λ p. sym (no_texts c.new.result c.new.ensures.empty p))
 
 pub loop-row-init : goal.loop-row-init
 loop-row-init c = record {
