@@ -26,3 +26,5 @@ mod StepBoundLemmas
 mod SiteExamples
 pub mod SettleLemmas
 mod PatchExamples
+pub mod EndLemmas
+mod EndExamples

@@ -22,4 +22,5 @@ pub mod Taking
 pub mod Dropped
 pub mod Underway
 pub mod Patches
+pub mod Ends
 pub mod Laws

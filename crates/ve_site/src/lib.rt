@@ -2,7 +2,9 @@
 //! and those that it undid. Each call is the model's, but for want of memory: `edit`, `settle`,
 //! `undo`, `redo`, `adopt`, `send`, `take`, `select` and `tell` make of a site what model_site
 //! says, or refuse it exactly where that does. `pending` gives its pending entries serialised, and
-//! `told` what changed in its list since `tell`, as patches.
+//! `told` what changed in its list since `tell`, as patches. `ends` says how many items its pending
+//! entries leave as they were, at a list's beginning and at its end; `ends_under` says it of others
+//! (specs/Ends.antt).
 //!
 //! Proved: but for want of memory, each call is the model's, or is refused as it is. Where a call
 //! fails nothing changes. An edit, an undo, a redo, an adoption and a take have bounds on their
@@ -35,6 +37,7 @@
 //! call fails for want of it, and a call that fails notes nothing: the notes are made last.
 #![tactic(auto)]
 
+mod ends;
 mod laws;
 mod pending;
 mod sent;
@@ -43,6 +46,7 @@ mod take;
 mod taking;
 mod untold;
 
+pub use ends::{Ends, ends_under};
 pub use laws::{settling_performs, takes_are_bounded};
 pub use model_site::{EditFault, MAX_PATCHES, Patch, RedoFault, SendFault, Taken, UndoFault};
 pub use site::Site;

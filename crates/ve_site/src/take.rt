@@ -25,7 +25,7 @@ use ve_tx::{EntryList, Parcel};
 
 impl Site {
     /// How many entries it has pending.
-    fn pending_len(&self) -> Result<usize, Memory>
+    pub fn pending_len(&self) -> Result<usize, Memory>
         ensures { IfOk result (λ count. count ≡ length (pending self.now.site)) }
     {
         match self.sent.len().checked_add(self.history.done().len()) {

@@ -5,5 +5,6 @@ mod SentLemmas
 mod TurnLemmas
 mod RevokeLemmas
 mod BeginLemmas
+mod EndLemmas
 mod TurnExamples
 mod EventLemmas

@@ -9,6 +9,7 @@ pub use Rattle.ve_peer_undo.specs.Refusal as RevokeRefusal
 pub use Rattle.ve_site.specs.Counted as SiteCounted
 pub use Rattle.ve_site.specs.Refusal as SiteRefusal
 pub use Rattle.ve_site.specs.Taking
+pub use Rattle.ve_site.specs.Ends
 pub mod Shared
 pub mod Senders
 pub mod IsShared

@@ -11,6 +11,9 @@
 //! law, `turns_are_events` (`Laws`). The type keeps the invariant of a session (`IsShared`), whose
 //! fields `Senders` reads. So each call asks only for such a site, and for what that site asks.
 //!
+//! `ends` says how many items all transactions that a site knows leave as they were, at the list's
+//! beginning and at its end: those of the committed entries that it has seen, and its own.
+//!
 //! It knows no page text and no script.
 //!
 //! A submission or a feed is taken off its queue only after it was served or taken; so a turn that
@@ -29,3 +32,4 @@ pub use model_site::{
 };
 pub use sites::Sites;
 pub use ve_peer_undo::RevokeFault;
+pub use ve_site::Ends;

@@ -1,12 +1,14 @@
 // A page under edit by several sites.
-ghost use Rattle.std.specs.Prelude.{◌≡◌, ◌≤◌, ◌<◌, ◌+◌, ◌*◌, [], All, IfOk};
+ghost use Rattle.std.specs.Prelude.{◌≡◌, ◌≤◌, ◌<◌, ◌+◌, ◌*◌, [], All, IfOk, length};
+ghost use Rattle.model_change.specs.Replay.{flattened};
 ghost use Rattle.model_items.specs.Plain.{plain_list, CitesWell};
 ghost use Rattle.model_edit.specs.Translate.{between};
 ghost use Rattle.model_site.specs.Replica.{opened_with};
 ghost use Rattle.model_site.specs.Session.{started};
-ghost use Rattle.model_site.specs.Site.{starting, told};
+ghost use Rattle.model_site.specs.Site.{entries_of, starting, told};
 ghost use Rattle.model_site_law.specs.Sound.{Sound};
 ghost use Rattle.ve_editor.specs.Page.{page_of};
+ghost use Rattle.ve_site.specs.Ends.{LeaveEnds};
 ghost use Rattle.ve_tree.specs.TreeOf.{most_steps};
 ghost use Rattle.ve_sites.specs.Senders.{first_senders};
 ghost use Rattle.ve_sites.specs.Shared.{site_at, sites as sites_of};
@@ -19,8 +21,8 @@ use std::sync::ledger::Ledger;
 use ve_base::{Memory, Steps, TryCopy};
 use ve_editor::Editor;
 use ve_items::Linear;
-use ve_server::Server;
-use ve_site::Site;
+use ve_server::{Parcels, Server};
+use ve_site::{Ends, Site, ends_under};
 use ve_store::Store;
 
 /// A page under edit by several sites, each with its queues to and from one server. The view is the
@@ -97,6 +99,17 @@ fn all_begun<L: Ledger>(
     Ok(members)
 }
 
+/// What the entries that a site knows leave of these ends: the committed ones that it has seen, and
+/// its pending ones.
+fn ends_of(most: Ends, committed: &Parcels, site: &Site) -> Ends
+    requires { site.now.site.seen ≤ length committed.now }
+    ensures within { (result.prefix ≤ most.prefix) × (result.suffix ≤ most.suffix) }
+    ensures left { LeaveEnds result (flattened (entries_of committed.now site.now.site)) }
+{
+    let seen = &committed.as_slice()[..site.seen()];
+    site.ends(ends_under(most, seen))
+}
+
 impl Sites {
     /// A session of so many sites, each of which has the page as it was opened. Each site's tree is
     /// built, in as many steps as `Editor::new` may take.
@@ -159,5 +172,24 @@ impl Sites {
         ensures { IfOk result (λ patches. patches.items ≡ told (site_at self.now k)) }
     {
         self.members[k].site().told()
+    }
+
+    /// How many items all transactions that site `k` knows leave as they were, at the list's
+    /// beginning and at its end: those of the committed entries that it has seen, and of its
+    /// pending ones. They are at most as many as the list had when it was opened. It takes no
+    /// memory.
+    pub fn ends(&self, k: usize) -> Ends
+        requires site { k < sites_of self.now }
+        ensures within { (result.prefix ≤ length self.now.first)
+            × (result.suffix ≤ length self.now.first) }
+        ensures left { LeaveEnds result (
+            flattened (entries_of self.now.session.committed (site_at self.now k))) }
+    {
+        let count = self.first.len();
+        let whole = Ends {
+            prefix: count,
+            suffix: count,
+        };
+        ends_of(whole, self.server.committed(), self.members[k].site())
     }
 }

@@ -1,9 +1,8 @@
-use Rattle.std.proofs.Common.{◌≡◌, List, ap, refl, sym, subst, ◌∙◌}
+use Rattle.std.proofs.Common.{List, ap, refl, sym, subst, ◌∙◌}
 use Rattle.std.proofs.lemmas.Result.{err_from_is_err_and}
 use Rattle.ve_base.specs.declared.value.Value.{Value}
 use Rattle.ve_rebase.proofs.RangeLemmas.{apart_conflict}
 use Rattle.ve_rebase.proofs.ShiftedLemmas.{paired_so}
-use Rattle.ve_rebase.specs.declared.shifted.Shifted.{Shifted}
 use Rattle.ve_rebase.specs.Lists.{IsRefusedAs}
 use Rattle.ve_rebase.specs.Shifted.{joined_pair, ArePaired, IsShifted}
 use Rattle.ve_rebase.specs.Span.{old_size}

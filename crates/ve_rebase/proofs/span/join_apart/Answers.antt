@@ -1,4 +1,4 @@
-use Rattle.std.proofs.Common.{true, false, sym, ◌∙◌}
+use Rattle.std.proofs.Common.{sym, ◌∙◌}
 use Rattle.ve_rebase.proofs.ApartLemmas.{joined_before, joined_after}
 use Rattle.ve_rebase.proofs.span.join_apart.Goals as goal
 

@@ -1,0 +1,9 @@
+use Rattle.std.proofs.Common.{All, take}
+use Rattle.ve_site.proofs.EndLemmas.{AtMost, ParcelLeaves}
+use Rattle.ve_site.proofs.ends.ends_under.Given as goal
+
+abbrev pub invariant-loop-parcel : goal.invariant-loop-parcel
+invariant-loop-parcel l = record {
+  within : AtMost l.ends l.fn.most;
+  left : All (ParcelLeaves l.ends) (take l.parcel-index l.entries);
+}
