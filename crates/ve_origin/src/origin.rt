@@ -1,11 +1,11 @@
 // The page that was first read, and which nodes are still as they were.
 ghost use Rattle.std.specs.Prelude.{◌≡◌, ◌≤◌, ◌<◌, ◌↔◌, IsTrue, length, take, drop, slice_get, Some};
 ghost use Rattle.model_page_write.specs.PageText.{part_at};
-ghost use Rattle.ve_origin.specs.Known.{IsKnown, IsCompared};
+ghost use Rattle.ve_origin.specs.Known.{AreAlike, IsKnown, IsCompared};
 ghost use Rattle.ve_origin.specs.Origins.{spans, first_read, items_had, FirstRead, IsCut, IsRow, AreRows, Keeps};
 
 use crate::carried::{Side, all_carry_same};
-use crate::compare::alike;
+use crate::compare::{alike, alike_after};
 use crate::known::Known;
 use crate::node::{run_of, same_node};
 use model_page::RefTable;
@@ -100,6 +100,15 @@ impl<'a> Origins<'a> {
     {
         let len = now.len();
         len == self.first.len() && alike(now, 0, self.first, 0, len) == len
+    }
+
+    /// As `is_first`, and what is known isn't compared again.
+    pub fn is_first_after(&self, now: &Linear, known: Known) -> bool
+        requires known { AreAlike now.now.items self.now.items known.alike }
+        ensures { IsTrue result ↔ (now.now.items ≡ self.now.items) }
+    {
+        let len = now.len();
+        len == self.first.len() && alike_after(now, 0, self.first, 0, len, known.alike) == len
     }
 
     fn row(&self, k: u32) -> OriginRow

@@ -13,6 +13,7 @@ pub mod WorldLemmas
 pub mod FirstLemmas
 pub mod NumberedLemmas
 pub mod PageLemmas
+pub mod EndLemmas
 pub mod HtmlLemmas
 pub mod ToldLemmas
 pub mod PlainLemmas

@@ -6,4 +6,5 @@ pub mod Opened
 pub mod Turning
 pub mod Stopped
 pub mod Laws
+pub mod Ends
 pub mod Program

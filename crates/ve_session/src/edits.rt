@@ -33,7 +33,7 @@ pub fn doc_at(session: &Sites, k: usize) -> Doc<'_>
     ensures store { result.store.now ≡ (site_at session.entry.now k).replica.store }
     ensures page { IsPage result.store.now result.list.now.items result.tree.now }
 {
-    session.site(k).editor().doc()
+    session.site(k).doc()
 }
 
 /// How many items the list of a site has.
@@ -154,7 +154,7 @@ pub fn erase<L: Ledger>(
         request.Erase dir by) }
 {
     layers_fit();
-    let selection = session.site(k).editor().selection();
+    let selection = session.site(k).selection();
     let range = erased_range(alloc, doc_at(session, k), selection, dir, by)?;
     let removal = EditCommand::Remove {
         from: range.anchor.min(range.focus),

@@ -13,6 +13,8 @@
 //! - `Asked`: the outcome of a command, and of a request to one of the sites;
 //! - `Opened`: the invariant of an open page; `Turning`: the invariant of a site that is asked;
 //! - `Stopped`: how a refusal of the crates below is told;
+//! - `Ends`: how much of two lists agrees at the beginning and at the end, by which `html` compares
+//!   no item outside of what the site's history changed;
 //! - `Laws`: `html` of a list that is as it was opened gives the page back
 //!   ([`unedited_page_is_told`]); so it is answered without a walk. What `changes` answers leads from
 //!   the list that was told last to the list ([`changes_lead_on`]). And a world answers a script as
@@ -27,6 +29,7 @@
 
 mod batches;
 mod edits;
+mod ends;
 mod faults;
 mod history;
 mod laws;

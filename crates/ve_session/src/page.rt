@@ -11,10 +11,13 @@ ghost use Rattle.ve_session.specs.Asked.{is_shown, reply_and_world, IsAsked};
 ghost use Rattle.ve_session.specs.Opened.{world_on, HasUtf8Page, IsLed, MayOpen};
 
 use crate::edits::doc_at;
+use crate::ends::{ends_within, known_at};
 use crate::faults::of_page;
 use crate::laws::unedited_page_is_told;
 use crate::shown::{is_shown, shown};
 use crate::turn::turn;
+use model_change::transactions_give;
+use model_items::plain_tells_apart;
 use model_page::RefTable;
 use model_world_law::{every_item_stands, every_site_holds, layers_fit};
 use std::alloc::Global;
@@ -161,7 +164,8 @@ impl OpenPage {
     }
 
     /// Appends the page that a site's list gives, as the reply to `html`. Where the list is as it
-    /// was opened, no node of it is looked for.
+    /// was opened, no node of it is looked for. Items before and after all that the site's history
+    /// changed aren't compared with those that were opened.
     fn show_html(&self, alloc: Global, k: usize, out: &mut Bytes) -> Result<(), Memory>
         requires site { k < length self.now.session.members }
         ensures reply { OnOk result (
@@ -177,6 +181,9 @@ impl OpenPage {
         every_site_holds();
         every_item_stands();
         replies_are_as_asked();
+        // items outside of a transaction's range stay, and over distinct values they are the same
+        transactions_give();
+        plain_tells_apart();
         // who took nothing and has nothing pending has the list that was opened
         if self.session.site(k).is_untouched() {
             return self.show_opened(alloc, k, out);
@@ -189,10 +196,13 @@ impl OpenPage {
             &self.first_refs,
         );
         let doc = doc_at(&self.session, k);
-        if origins.is_first(doc.list) {
+        // a long history takes longer to pass than the list to compare
+        let ends = ends_within(&self.session, k, doc.list.len() / 16);
+        let known = known_at(ends, doc.list, self.session.first());
+        if origins.is_first_after(doc.list, known) {
             return self.show_opened(alloc, k, out);
         }
-        let answer = html(alloc, &origins, doc)?;
+        let answer = html(alloc, &origins, doc, known)?;
         reply_text(alloc, &answer, out)
     }
 

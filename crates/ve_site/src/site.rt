@@ -18,6 +18,7 @@ use std::sync::ledger::Ledger;
 use ve_base::{Memory, Steps};
 use ve_editor::Editor;
 use ve_history::History;
+use ve_offsets::Doc;
 use ve_server::{Parcels, Submit};
 use ve_tx::{Draft, Entry, EntryList, Parcel};
 
@@ -64,7 +65,9 @@ fn nothing_to_undo(sent: usize) -> UndoFault
 
 impl Site {
     ghost use Rattle.ve_editor.specs.Edited.{IsDraftOf, drafted, entry_by_value, EntryCites};
+    ghost use Rattle.ve_editor.specs.Page.{IsPage};
     ghost use Rattle.ve_editor.specs.Refusal.{IsEditRefusal};
+    ghost use Rattle.ve_offsets.specs.Docs.{page_items};
     ghost use Rattle.ve_editor.specs.Counted.{steps_after, steps_over};
     ghost use Rattle.ve_site.specs.Counted.{undoing, redoing};
     ghost use Rattle.ve_server.specs.Fed.{submission_of};
@@ -108,6 +111,22 @@ impl Site {
         ensures { result.now ≡ self.now.site.replica }
     {
         &self.editor
+    }
+
+    /// Lends its list, tree and values, to be read.
+    pub fn doc(&self) -> Doc<'_>
+        ensures items { page_items result ≡ self.now.site.replica.items }
+        ensures store { result.store.now ≡ self.now.site.replica.store }
+        ensures page { IsPage self.now.site.replica.store result.list.now.items result.tree.now }
+    {
+        self.editor.doc()
+    }
+
+    /// Its selection.
+    pub fn selection(&self) -> Selection
+        ensures { result ≡ self.now.site.replica.selection }
+    {
+        self.editor.selection()
     }
 
     /// How many committed entries its list has.

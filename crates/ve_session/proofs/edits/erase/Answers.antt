@@ -17,7 +17,7 @@ use Rattle.ve_session.proofs.edits.erase.Goals as goal
 pub returns-in_err-draft-clause-refused : goal.returns-in_err-draft-clause-refused
 returns-in_err-draft-clause-refused g c =
     let old = c.args.session.now in
-    let selected = c.selection-selection.ensures ∙ ap (λ (r : Replica). r.selection) (c.editor.ensures ∙ ap (λ s. s.replica) c.site.ensures) in
+    let selected = c.selection-selection.ensures ∙ ap (λ s. s.replica.selection) c.site.ensures in
     let e = erased_at c.args.k old c.args.dir c.args.by _ _ c.in_ok-range.range c.doc_at.ensures.items selected c.in_ok-range.ensures.ok in
     let p = err_from_is_err_and c.from_residual-in_err-draft.result c.from_residual-in_err-draft.ensures.1 in
     rw (p.1, p.2)
@@ -37,7 +37,7 @@ returns-clause-answer g c =
     let remove = change.Remove c.min.result c.max.result in
     let t = drafted s.replica.store c.in_ok-draft.draft in
     let r = request.Erase c.args.dir c.args.by in
-    let selected = c.selection-selection.ensures ∙ ap (λ (r : Replica). r.selection) (c.editor.ensures ∙ ap (λ s. s.replica) c.site.ensures) in
+    let selected = c.selection-selection.ensures ∙ ap (λ s. s.replica.selection) c.site.ensures in
     let e = erased_at c.args.k old c.args.dir c.args.by _ _ c.in_ok-range.range c.doc_at.ensures.items selected c.in_ok-range.ensures.ok in
     let d = drafted_at (λ items. change_of items remove) _ _ _ _ c.in_ok-draft.draft c.doc_at-2.ensures.store c.doc_at-2.ensures.items c.in_ok-draft.ensures.ok in
     ok_as (λ a. IsPerformed t c.args.k old a c.perform.new.session) (λ a. IsAnswered r c.args.k old a c.perform.new.session) c.perform.result
@@ -51,7 +51,7 @@ returns-clause-refused g c =
     let remove = change.Remove c.min.result c.max.result in
     let t = drafted s.replica.store c.in_ok-draft.draft in
     let r = request.Erase c.args.dir c.args.by in
-    let selected = c.selection-selection.ensures ∙ ap (λ (r : Replica). r.selection) (c.editor.ensures ∙ ap (λ s. s.replica) c.site.ensures) in
+    let selected = c.selection-selection.ensures ∙ ap (λ s. s.replica.selection) c.site.ensures in
     let e = erased_at c.args.k old c.args.dir c.args.by _ _ c.in_ok-range.range c.doc_at.ensures.items selected c.in_ok-range.ensures.ok in
     let d = drafted_at (λ items. change_of items remove) _ _ _ _ c.in_ok-draft.draft c.doc_at-2.ensures.store c.doc_at-2.ensures.items c.in_ok-draft.ensures.ok in
     err_as (λ why. IsRefused why (checked_transaction s.replica (Ok t))) (IsStopped r c.args.k old) c.perform.result
@@ -63,7 +63,7 @@ returns-clause-steps g c = λ h.
     let old = c.args.session.now in
     let s = site_at old c.args.k in
     let remove = change.Remove c.min.result c.max.result in
-    let selected = c.selection-selection.ensures ∙ ap (λ (r : Replica). r.selection) (c.editor.ensures ∙ ap (λ s. s.replica) c.site.ensures) in
+    let selected = c.selection-selection.ensures ∙ ap (λ s. s.replica.selection) c.site.ensures in
     let e = erased_at c.args.k old c.args.dir c.args.by _ _ c.in_ok-range.range c.doc_at.ensures.items selected c.in_ok-range.ensures.ok in
     let d = drafted_at (λ items. change_of items remove) _ _ _ _ c.in_ok-draft.draft c.doc_at-2.ensures.store c.doc_at-2.ensures.items c.in_ok-draft.ensures.ok in
     erase_cost c.args.k old c.args.dir c.args.by c.in_ok-range.range e c.min.result c.max.result c.min.ensures c.max.ensures c.args.steps.now c.perform.new.steps

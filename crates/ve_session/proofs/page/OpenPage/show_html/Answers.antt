@@ -1,5 +1,5 @@
 use Rattle.std.proofs.Common.{◌≡◌, ◌<◌, ◌++◌, ◌∷◌, [], List, length, refl, ap, sym, subst, ◌∙◌}
-use Rattle.std.specs.Prelude.{IsUtf8, OnOk, Some, option_map, slice_get}
+use Rattle.std.specs.Prelude.{IfSome, IsUtf8, OnOk, Some, option_map, slice_get}
 use Rattle.model_site.specs.Session.{Member}
 use Rattle.model_items.specs.declared.item.Item.{Item}
 use Rattle.model_page.specs.Editable.{all_refer}
@@ -11,7 +11,10 @@ use Rattle.ve_offsets.specs.Docs.{page_items}
 use Rattle.ve_origin.specs.Origins.{first_read, AreRows, FirstRead}
 use Rattle.ve_session.specs.Asked.{reply_and_world}
 use Rattle.ve_session.specs.Opened.{lent_of, page_on, world_on, OnPage}
-use Rattle.ve_session.proofs.HtmlLemmas.{first_there, first_again, html_is, items_at, untouched_at}
+use Rattle.ve_origin.specs.Known.{AreAlike}
+use Rattle.ve_session.specs.Ends.{AgreeAtEnds}
+use Rattle.ve_site.specs.declared.ends.Ends.{Ends}
+use Rattle.ve_session.proofs.HtmlLemmas.{ends_agree, first_there, first_again, html_is, items_at, untouched_at}
 use Rattle.ve_session.proofs.PageLemmas.{refers}
 use Rattle.ve_session.proofs.page.OpenPage.show_html.Goals as goal
 
@@ -46,8 +49,8 @@ show_opened-requires-clause-unedited c =
     subst (λ (q : OnPage). option_map (λ (m : Member). m.site.replica.items) (slice_get q.session.members c.args.k) ≡ Some q.page.items) c.self.view_is
     (untouched_at c.every_site_holds.ensures (page_on o i.session.session) c.args.k within c.self.invariant.led c.site.result.now.site c.site.ensures (c.is_untouched.ensures.0 c.if-is_untouched.true))
 
-pub show_opened-requires-then-is_first-clause-unedited : goal.show_opened-requires-then-is_first-clause-unedited
-show_opened-requires-then-is_first-clause-unedited c =
+pub show_opened-requires-then-is_first_after-clause-unedited : goal.show_opened-requires-then-is_first_after-clause-unedited
+show_opened-requires-then-is_first_after-clause-unedited c =
     let i = c.self.inside in
     let o = lent_of i.text i.body i.rows i.session.first i.first_refs in
     let within = subst (λ (q : OnPage). c.args.k < length q.session.members) (sym c.self.view_is) c.requires.site in
@@ -55,7 +58,7 @@ show_opened-requires-then-is_first-clause-unedited c =
     c.new-origins.ensures ∙ ap (λ text. first_read text i.body i.rows c.first.result.now.items i.first_refs) c.as_str.ensures.bytes
     ∙ ap (λ (items : List Item). lent_of i.text i.body i.rows items i.first_refs) c.first.ensures.same in
     let again = first_again o i.session c.args.k within c.self.invariant c.every_site_holds.ensures c.doc_at-doc.result.store.now c.new-origins.result c.doc_at-doc.ensures.store lent
-    c.doc_at-doc.result.list.now.items (page_items c.doc_at-doc.result) (c.is_first.ensures.0 c.if-is_first.true ∙ ap (λ (x : FirstRead). x.items) lent) refl c.doc_at-doc.ensures.items in
+    c.doc_at-doc.result.list.now.items (page_items c.doc_at-doc.result) (c.is_first_after.ensures.0 c.if-is_first_after.true ∙ ap (λ (x : FirstRead). x.items) lent) refl c.doc_at-doc.ensures.items in
     subst (λ (q : OnPage). option_map (λ (m : Member). m.site.replica.items) (slice_get q.session.members c.args.k) ≡ Some q.page.items) c.self.view_is
     (items_at i.session c.args.k (page_on o i.session.session).page.items within again)
 
@@ -71,3 +74,36 @@ returns-clause-reply c =
     c.replies_are_as_asked.ensures.html (page_items c.doc_at-doc.result) _ c.doc_at-doc.ensures.items c.in_ok-answer.ensures.reply in
     subst (λ (r : Reply). OnOk c.reply_text.result (c.reply_text.new.out ≡ c.args.out.now ++ (reply_text r ++ 10 ∷ [])))
     (told ∙ ap (λ (q : OnPage). (reply_and_world (world_on q) (Ask request.Html c.args.k)).0) c.self.view_is) c.reply_text.ensures.ok
+
+pub known_at-known-requires : goal.known_at-known-requires
+known_at-known-requires c =
+    let i = c.self.inside in
+    let o = lent_of i.text i.body i.rows i.session.first i.first_refs in
+    let within = subst (λ (q : OnPage). c.args.k < length q.session.members) (sym c.self.view_is) c.requires.site in
+    let lent : c.new-origins.result ≡ o =
+    c.new-origins.ensures ∙ ap (λ text. first_read text i.body i.rows c.first.result.now.items i.first_refs) c.as_str.ensures.bytes
+    ∙ ap (λ (items : List Item). lent_of i.text i.body i.rows items i.first_refs) c.first.ensures.same in
+    subst (λ (items : List Item). IfSome c.ends_within-ends.result (λ (e : Ends). AgreeAtEnds e items c.doc_at-doc.result.list.now.items)) (sym c.first-known.ensures.same)
+    (ends_agree o i.session c.args.k within c.self.invariant c.every_site_holds.ensures c.doc_at-doc.result.store.now c.new-origins.result c.doc_at-doc.ensures.store lent
+    c.transactions_give.ensures.active c.plain_tells_apart.ensures c.ends_within-ends.result c.doc_at-doc.result.list.now.items c.doc_at-doc.ensures.page.cites c.doc_at-doc.ensures.items
+    c.ends_within-ends.ensures.within c.ends_within-ends.ensures.left)
+
+pub html-requires-clause-known : goal.html-requires-clause-known
+html-requires-clause-known c =
+    let i = c.self.inside in
+    let o = lent_of i.text i.body i.rows i.session.first i.first_refs in
+    let lent : c.new-origins.result ≡ o =
+    c.new-origins.ensures ∙ ap (λ text. first_read text i.body i.rows c.first.result.now.items i.first_refs) c.as_str.ensures.bytes
+    ∙ ap (λ (items : List Item). lent_of i.text i.body i.rows items i.first_refs) c.first.ensures.same in
+    subst (λ (items : List Item). AreAlike c.doc_at-doc.result.list.now.items items c.known_at-known.result.alike)
+    (c.first-known.ensures.same ∙ sym (ap (λ (x : FirstRead). x.items) lent)) c.known_at-known.ensures
+
+pub is_first_after-requires : goal.is_first_after-requires
+is_first_after-requires c =
+    let i = c.self.inside in
+    let o = lent_of i.text i.body i.rows i.session.first i.first_refs in
+    let lent : c.new-origins.result ≡ o =
+    c.new-origins.ensures ∙ ap (λ text. first_read text i.body i.rows c.first.result.now.items i.first_refs) c.as_str.ensures.bytes
+    ∙ ap (λ (items : List Item). lent_of i.text i.body i.rows items i.first_refs) c.first.ensures.same in
+    subst (λ (items : List Item). AreAlike c.doc_at-doc.result.list.now.items items c.known_at-known.result.alike)
+    (c.first-known.ensures.same ∙ sym (ap (λ (x : FirstRead). x.items) lent)) c.known_at-known.ensures
