@@ -1,6 +1,6 @@
 -- Values by which items may be references, and the tables of lists that cite them.
 use Rattle.std.proofs.Common.{◌≡◌, ◌≢◌, true, false, List, [], ◌∷◌, refl}
-use Rattle.std.specs.Prelude.{Bool, Option, Some, None, codes}
+use Rattle.std.specs.Prelude.{Option, Some, None, codes}
 use Rattle.std.specs.List.{list_any}
 use Rattle.ve_base.specs.declared.head.Key.TheVariants.{Auto}
 use Rattle.ve_base.specs.declared.head.RefKey.{RefKey}
