@@ -83,7 +83,7 @@ known_at-known-requires c =
     let lent : c.new-origins.result ≡ o =
     c.new-origins.ensures ∙ ap (λ text. first_read text i.body i.rows c.first.result.now.items i.first_refs) c.as_str.ensures.bytes
     ∙ ap (λ (items : List Item). lent_of i.text i.body i.rows items i.first_refs) c.first.ensures.same in
-    subst (λ (items : List Item). IfSome c.ends_within-ends.result (λ (e : Ends). AgreeAtEnds e items c.doc_at-doc.result.list.now.items)) (sym c.first-known.ensures.same)
+    subst (λ (items : List Item). IfSome c.ends_within-ends.result (λ (e : Ends). AgreeAtEnds e items c.doc_at-doc.result.list.now.items)) (sym c.first-2.ensures.same)
     (ends_agree o i.session c.args.k within c.self.invariant c.every_site_holds.ensures c.doc_at-doc.result.store.now c.new-origins.result c.doc_at-doc.ensures.store lent
     c.transactions_give.ensures.active c.plain_tells_apart.ensures c.ends_within-ends.result c.doc_at-doc.result.list.now.items c.doc_at-doc.ensures.page.cites c.doc_at-doc.ensures.items
     c.ends_within-ends.ensures.within c.ends_within-ends.ensures.left)
@@ -96,7 +96,7 @@ html-requires-clause-known c =
     c.new-origins.ensures ∙ ap (λ text. first_read text i.body i.rows c.first.result.now.items i.first_refs) c.as_str.ensures.bytes
     ∙ ap (λ (items : List Item). lent_of i.text i.body i.rows items i.first_refs) c.first.ensures.same in
     subst (λ (items : List Item). AreAlike c.doc_at-doc.result.list.now.items items c.known_at-known.result.alike)
-    (c.first-known.ensures.same ∙ sym (ap (λ (x : FirstRead). x.items) lent)) c.known_at-known.ensures
+    (c.first-2.ensures.same ∙ sym (ap (λ (x : FirstRead). x.items) lent)) c.known_at-known.ensures
 
 pub is_first_after-requires : goal.is_first_after-requires
 is_first_after-requires c =
@@ -106,4 +106,4 @@ is_first_after-requires c =
     c.new-origins.ensures ∙ ap (λ text. first_read text i.body i.rows c.first.result.now.items i.first_refs) c.as_str.ensures.bytes
     ∙ ap (λ (items : List Item). lent_of i.text i.body i.rows items i.first_refs) c.first.ensures.same in
     subst (λ (items : List Item). AreAlike c.doc_at-doc.result.list.now.items items c.known_at-known.result.alike)
-    (c.first-known.ensures.same ∙ sym (ap (λ (x : FirstRead). x.items) lent)) c.known_at-known.ensures
+    (c.first-2.ensures.same ∙ sym (ap (λ (x : FirstRead). x.items) lent)) c.known_at-known.ensures
