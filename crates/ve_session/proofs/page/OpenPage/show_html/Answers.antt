@@ -98,12 +98,14 @@ html-requires-clause-known c =
     subst (λ (items : List Item). AreAlike c.doc_at-doc.result.list.now.items items c.known_at-known.result.alike)
     (c.first-2.ensures.same ∙ sym (ap (λ (x : FirstRead). x.items) lent)) c.known_at-known.ensures
 
-pub is_first_after-requires-clause-known : goal.is_first_after-requires-clause-known
-is_first_after-requires-clause-known c =
+pub is_first_after-requires : goal.is_first_after-requires
+is_first_after-requires c =
     let i = c.self.inside in
     let o = lent_of i.text i.body i.rows i.session.first i.first_refs in
     let lent : c.new-origins.result ≡ o =
     c.new-origins.ensures ∙ ap (λ text. first_read text i.body i.rows c.first.result.now.items i.first_refs) c.as_str.ensures.bytes
     ∙ ap (λ (items : List Item). lent_of i.text i.body i.rows items i.first_refs) c.first.ensures.same in
-    subst (λ (items : List Item). AreAlike c.doc_at-doc.result.list.now.items items c.known_at-known.result.alike)
-    (c.first-2.ensures.same ∙ sym (ap (λ (x : FirstRead). x.items) lent)) c.known_at-known.ensures
+    record {
+      known = subst (λ (items : List Item). AreAlike c.doc_at-doc.result.list.now.items items c.known_at-known.result.alike)
+          (c.first-2.ensures.same ∙ sym (ap (λ (x : FirstRead). x.items) lent)) c.known_at-known.ensures;
+    }
