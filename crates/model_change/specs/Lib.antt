@@ -13,3 +13,4 @@ pub mod Join
 pub mod Replay
 pub mod Store
 pub mod Touch
+pub mod Cost

@@ -9,7 +9,8 @@
 //! - `Join`: when two transactions conflict, and each over the other where they don't;
 //! - `Replay`: whole lists of transactions joined, taken back, and taken back under later ones;
 //! - `Store`: the values that items cite, and the list that changes fill;
-//! - `Touch`: how many nodes of the tree a transaction touches.
+//! - `Touch`: how many nodes of the tree a transaction touches;
+//! - `Cost`: how many steps it may take.
 //!
 //! The laws stand in `laws`: each public function there does nothing, and its contract is a law
 //! that is proved. "Names apart" means everywhere that no head has two attributes of one name.

@@ -1,4 +1,6 @@
 // A cell of a table's grid.
+use std::alloc::Global;
+use ve_base::{Memory, TryCopy};
 
 /// A cell with the rectangle of the grid that it covers. Rows and columns count from 0.
 #[derive(Clone, Copy, Debug, PartialEq, Eq)]
@@ -13,4 +15,10 @@ pub struct GridCell {
     pub rows: usize,
     /// How many columns it covers.
     pub columns: usize,
+}
+
+impl TryCopy for GridCell {
+    fn copy(&self, _alloc: Global) -> Result<GridCell, Memory> {
+        Ok(*self)
+    }
 }

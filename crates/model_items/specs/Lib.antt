@@ -6,6 +6,7 @@ pub mod Marks
 pub mod Plain
 pub mod Law
 pub mod Tree
+pub mod Cost
 pub mod LawfulTree
 pub mod NodeAt
 pub mod Offsets

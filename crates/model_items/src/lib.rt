@@ -8,6 +8,7 @@
 //! - `Law`: which item may stand where, the verdict over a whole list, and what a changed piece
 //!   tells of it;
 //! - `Tree`: the forest that a list spells, and the node round an offset;
+//! - `Cost`: how many steps making the tree may take;
 //! - `LawfulTree`: lawful lists in words of the tree;
 //! - `NodeAt`: the node round an offset, found in the tree;
 //! - `Offsets`: what an offset is, the partner of a bracket, unmatched brackets of a range, and the

@@ -48,6 +48,7 @@ pub mod PageRefers
 pub mod EditsRefer
 pub mod BodyReplaced
 pub mod ReferenceLemmas
+pub mod WholeRangeLemmas
 mod FormCases
 mod SpanExamples
 mod ComposedExamples

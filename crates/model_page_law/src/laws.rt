@@ -6,7 +6,7 @@ ghost use Rattle.model_page_law.specs.ReadBack.{FreshIsReadBack, FreshOpensAsIts
 ghost use Rattle.model_page_law.specs.Referring.{EditsRefer, FragmentsRefer, InversesRefer, JoinListsRefer, JoinsRefer, OpenedRefers, ReplaysRefer, ReversalsRefer, RevokesRefer, SpelledRefers};
 ghost use Rattle.model_page_law.specs.Replaced.{BodyIsReplaced, WrittenIsReadBack, WrittenOpens};
 ghost use Rattle.model_page_law.specs.Spans.{BodyIsCut, OriginsStand, RangesAreCompared, SpansAreParts};
-ghost use Rattle.model_page_law.specs.WritesFresh.{WritesFresh};
+ghost use Rattle.model_page_law.specs.WritesFresh.{WholeRangeIsFresh, WritesFresh};
 ghost use Rattle.model_page_law.specs.WrittenReference.{ReferenceHasBody, ReferenceIsWritten};
 ghost use Rattle.model_page_law.specs.WrittenBack.{FaultlessOpens, OpenedIsFaultless, OpenedIsWrittenBack, OpensAsItsForest, SpelledIsWrittenBack};
 
@@ -111,6 +111,12 @@ pub fn fresh_is_read_back()
 #[tactic(auto, using(crate::proofs::FreshLemmas::writes_fresh))]
 pub fn writes_fresh()
     ensures { WritesFresh }
+{}
+
+/// The range of all items is written fresh as the list is.
+#[tactic(auto, using(crate::proofs::WholeRangeLemmas::whole_range_is_fresh))]
+pub fn whole_range_is_fresh()
+    ensures { WholeRangeIsFresh }
 {}
 
 /// A page with another body that a forest spells opens with that body: its prefix and its suffix

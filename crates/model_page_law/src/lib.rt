@@ -14,7 +14,7 @@
 //!   `edits_keep_references`, `composed_reads_back`, `reference_is_written`): references stay
 //!   editable, and are written as what they say;
 //! - `Formed`, `ReadBack`, `WritesFresh`, `Replaced` (`fresh_is_read_back`, `writes_fresh`,
-//!   `written_page_opens`): what is written anew is read back.
+//!   `whole_range_is_fresh`, `written_page_opens`): what is written anew is read back.
 //!
 //! A reference whose body no forest of 200 levels spells is written as an element that isn't
 //! editable. The law of written references tells both cases apart.
@@ -25,5 +25,6 @@ mod laws;
 pub use laws::{
     composed_reads_back, edits_keep_references, fresh_is_read_back, origins_number_spans,
     origins_stand, page_is_read, page_is_written_back, page_opens, reference_is_written,
-    references_are_editable, spans_are_parts, writes_fresh, written_page_opens,
+    references_are_editable, spans_are_parts, whole_range_is_fresh, writes_fresh,
+    written_page_opens,
 };

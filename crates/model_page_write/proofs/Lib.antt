@@ -2,3 +2,4 @@ mod WrittenExamples
 mod LongExamples
 mod ReadBackExamples
 mod JoinedExamples
+mod RangeExamples

@@ -4,7 +4,8 @@
 //! - `Nodes`: the tree of a list, with all that its items say and the bodies that its references
 //!   carry;
 //! - `Written`: marks, bare paragraphs, and the text of each node;
-//! - `PageText`: fresh text, which nodes are kept, and the page.
+//! - `PageText`: fresh text, which nodes are kept, and the page;
+//! - `Range`: the fresh text of a range.
 //!
 //! The laws are `model_page_law`'s.
 //!

@@ -6,5 +6,6 @@ pub mod Entries
 pub mod Site
 pub mod Joined
 pub mod Take
+pub mod Made
 pub mod Session
 pub mod Events

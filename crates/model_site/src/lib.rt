@@ -11,6 +11,7 @@
 //! - `Site`: edits, undo, redo, sending, and taking a known entry back;
 //! - `Joined`: entries joined one after the other over committed ones, up to the first conflict;
 //! - `Take`: what a site makes of foreign entries and of an acknowledgement;
+//! - `Made`: the transactions that an undo, a redo, a revoke and a take make;
 //! - `Session`: the sites with their queues and the committed entries, and the server's turn;
 //! - `Events`: what may happen in a session.
 //!

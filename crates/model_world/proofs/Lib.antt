@@ -11,5 +11,6 @@ mod TableScripts
 mod ToldScripts
 mod OrderScripts
 mod LimitScripts
+mod CostExamples
 pub mod Unchanged
 pub mod BatchLemmas

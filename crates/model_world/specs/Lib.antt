@@ -13,4 +13,5 @@ pub mod Edits
 pub mod Opening
 pub mod Answers
 pub mod World
+pub mod Cost
 pub mod Laws

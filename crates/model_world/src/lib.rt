@@ -12,7 +12,8 @@
 //! - `Refusals`: the refusal that each fault is answered by;
 //! - `Opening`, `Answers`: a page opened, and what a site's request is answered;
 //! - `World`: the world, the reply to a line, and the plain machine's `meaning`, which counts no
-//!   steps.
+//!   steps;
+//! - `Cost`: how many steps a line may take, by the model's trees and transactions alone.
 //!
 //! The laws, each the contract of a function that does nothing: refusals change nothing
 //! ([`refusals_change_nothing`]), and a batch is whole or nothing ([`batches_are_whole`]). What

@@ -23,4 +23,3 @@ mod StandingExamples
 pub mod CarriedLemmas
 pub mod ViewLemmas
 pub mod OverMarks
-mod CostExamples

@@ -7,4 +7,3 @@ pub mod ViewLines
 pub mod ShownLaws
 pub mod Redone
 pub mod Pasted
-pub mod Cost

@@ -15,8 +15,7 @@
 //!   ([`sites_meet`], [`quiet_sites_meet`]), and when a page is written as it was opened ([`unedited_is_written_back`]);
 //! - `Redone`: what a site undoes and redoes, line by line ([`lines_redo`]);
 //! - `ViewLines`: what whoever keeps a copy of a site's list has of it, by what the site tells
-//!   ([`lines_show`]);
-//! - `Cost`: how many steps a line may take, by the model's trees and transactions alone.
+//!   ([`lines_show`]).
 #![tactic(auto)]
 
 mod laws;

@@ -1,5 +1,12 @@
 -- Worked examples of the definitions.
 use Rattle.std.specs.Prelude.{◌≡◌, [], ◌∷◌, codes, refl}
+use denote.Param.Send.{IsSend, IsSync}
+use Rattle.ve_base.specs.declared.attrs.Attr.{Attr}
+use Rattle.ve_base.specs.contracts.attrs.Attrs.{the_row}
+use Rattle.ve_base.proofs.attrs.Attrs.TheSendSync.{the_send, the_sync}
+use Rattle.std.specs.Str.{encode_utf8_all}
+use Rattle.std.specs.Hash.FoldHasher.{initial}
+use Rattle.ve_base.specs.Digest.{attr_input, digest_of}
 use Rattle.ve_base.specs.Feed.{Feed, piece_size, after_piece, after_fault}
 use Rattle.ve_base.specs.Fill.{Fill, after_write, after_failed_write, after_taking}
 use Rattle.ve_base.specs.Names.{names}
@@ -38,3 +45,21 @@ takes_all = refl
 
 names_in_order : names (record { name = codes "id"; value = codes "x" } ∷ record { name = codes "class"; value = [] } ∷ []) ≡ codes "id" ∷ codes "class" ∷ []
 names_in_order = refl
+
+-- an attribute feeds its name and its value, each with an end of its own
+abbrev attr : Attr
+attr = record { name = codes "id"; value = codes "x" }
+
+feeds_both : attr_input attr ≡ encode_utf8_all (codes "id") ∷ (255 ∷ []) ∷ encode_utf8_all (codes "x") ∷ (255 ∷ []) ∷ []
+feeds_both = refl
+
+no_attributes : digest_of [] ≡ 0x243f_6a88_85a3_08d3
+unfolding initial
+no_attributes = refl
+
+-- shared or not, attributes may go to another thread
+attrs_cross : IsSend the_row
+attrs_cross = the_send
+
+attrs_are_shared : IsSync the_row
+attrs_are_shared = the_sync

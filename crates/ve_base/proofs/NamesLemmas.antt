@@ -1,8 +1,10 @@
 -- Names apart, one more at a time.
-use Rattle.std.proofs.Common.{◌≡◌, inl, inr, ℕ, zero, suc, List, [], ◌∷◌, ◌++◌, Contains, subst, sym, arith}
+use Rattle.std.proofs.Common.{◌≡◌, inl, inr, ℕ, zero, suc, List, [], ◌∷◌, ◌++◌, Contains, subst, sym, ◌∙◌, arith}
 use Rattle.std.proofs.lemmas.List.{map-append}
 use Rattle.std.proofs.lemmas.List.Elements.{Contains-append_cases, Contains-append_right}
 use Rattle.ve_base.specs.declared.attrs.Attr.{Attr}
+use Rattle.ve_base.specs.declared.attrs.Held.{Held}
+use Rattle.ve_base.specs.Held.{held_list}
 use Rattle.ve_base.specs.Names.{names, NamesApart}
 
 names-push : (attrs : List Attr) (attr : Attr) → names (attrs ++ attr ∷ []) ≡ names attrs ++ attr.name ∷ []
@@ -23,3 +25,9 @@ NamesApart-push (one ∷ attrs) attr apart new = (
   not_among-push attrs one.name attr apart.0 (λ e. new (0, omega arith, sym e)),
   NamesApart-push attrs attr apart.1 (λ h. new (Contains-append_right (one.name ∷ []) (names attrs) attr.name h)),
 )
+
+-- the same of the list that attributes are, and of the list that came of it
+pub apart_pushed : (held : Held) (attrs before after : List Attr) (attr : Attr) → NamesApart (held_list held) → held_list held ≡ attrs → ¬ Contains (names attrs) attr.name → held_list held ≡ before → after ≡ before ++ attr ∷ [] → NamesApart after
+apart_pushed held attrs before after attr apart view new is pushed =
+    let P : List Attr → Type 0 = λ l. ¬ Contains (names l) attr.name in
+    subst NamesApart (sym pushed) (NamesApart-push before attr (subst NamesApart is apart) (subst P (sym view ∙ is) new))

@@ -1,8 +1,6 @@
 // One attribute of an element set or taken off.
-ghost use Rattle.std.specs.Prelude.{◌≡◌, ◌↔◌, ◌<◌, true, Ok, IsTrue, IsOk, IfOk, IfErr, All, length};
-ghost use Rattle.std.specs.Str.{chars};
+ghost use Rattle.std.specs.Prelude.{◌≡◌, ◌<◌, true, Ok, IsOk, IfOk, IfErr, All, length};
 ghost use Rattle.model_items.specs.Plain.{plain, plain_list, CitesWell};
-ghost use Rattle.model_change.specs.Attributes as model;
 ghost use Rattle.model_edit.specs.Convert.{opens_kind};
 ghost use Rattle.ve_kinds.specs.Table as table;
 ghost use Rattle.ve_offsets.specs.Docs.{IsDoc, page_items};
@@ -18,7 +16,7 @@ use ve_edits::present_value;
 use ve_items::Item;
 use ve_kinds::is_element;
 use ve_offsets::Doc;
-use ve_tx::{Op, OpList, Transaction};
+use ve_tx::{Op, OpList, Transaction, is_reserved};
 
 /// Whether the item opens an element.
 fn opens_element(item: Item) -> bool
@@ -110,20 +108,6 @@ fn set(
     };
     let tx = unfilled.filled(alloc, doc.list, doc.store)?;
     Ok(tx)
-}
-
-/// Whether a name has the characters of a word.
-fn spells(name: &str, word: &str) -> bool
-    ensures { IsTrue result ↔ (chars name.now ≡ chars word.now) }
-{
-    name == word
-}
-
-/// Whether the name says what a node is, so that it is not set like others.
-fn is_reserved(name: &str) -> bool
-    ensures { result ≡ model.is_reserved (chars name.now) }
-{
-    spells(name, "about") || spells(name, "typeof")
 }
 
 /// The transaction that sets an attribute of the element that begins at a position to a value, or

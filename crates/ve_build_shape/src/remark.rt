@@ -36,7 +36,7 @@ fn is_annotation(tag: &Text) -> bool
 fn has_reserved(attrs: &[Attr]) -> bool
     ensures { result ≡ list_any (λ attr. attributes.is_reserved attr.name) attrs.now }
 {
-    attrs.iter().any(|attr| is_reserved(&attr.name))
+    attrs.iter().any(|attr| is_reserved(attr.name.as_str()))
 }
 
 /// Whether a mark is none that an edit may set or take off: no text has its tag as a mark, or one

@@ -16,7 +16,8 @@ use Rattle.model_site_law.specs.Sound.{AllMayRun, MayRun, Sound}
 use Rattle.model_world.specs.declared.edit_command.EditCommand.{EditCommand}
 use Rattle.model_world.specs.declared.refusal.Refusal.{Refusal}
 use Rattle.model_world.specs.Edits.{BatchRefusal, checked_transaction, batch_from, batch_on, change_of, change_on, unless_faulty}
-use Rattle.model_world_law.specs.Cost.{cost_of_transaction, cost_of_transactions, made_in_turn, made_of}
+use Rattle.model_change.specs.Cost.{cost_of_transaction, cost_of_transactions}
+use Rattle.model_world.specs.Cost.{made_in_turn, made_of}
 use Rattle.model_world_law.specs.Fit.{AllWritten, ChangesFit, IsWritten}
 use Rattle.ve_tx.specs.declared.draft.Draft.{Draft}
 use Rattle.ve_tx.specs.declared.entry.Entry.{Entry as KeptEntry}
@@ -25,7 +26,6 @@ use Rattle.ve_tx.specs.Entry.{entry_with}
 use Rattle.ve_tx.specs.Making.{Extends}
 use Rattle.ve_tx.specs.Operation.{by_value}
 use Rattle.ve_tx.proofs.ValuesLemmas.{extends_by_fill}
-use Rattle.ve_editor.specs.Counted.{steps_of}
 use Rattle.ve_editor.specs.Edited.{EntryCites, entry_by_value}
 use Rattle.ve_editor.proofs.OtherLemmas.{all_by_value-extended, all_cites-extended}
 use Rattle.ve_changes.specs.declared.faults.ChangeStop.{ChangeStop}
@@ -71,7 +71,7 @@ pub may_run : (fit : ChangesFit) (law : EditMayRun) (r : Replica) (c : EditComma
 may_run fit law r c t written sound e n = let f = fit r.items c t written sound e in law t r f.reduced f.apart n
 
 -- what a change that is performed may take; one that is refused takes nothing
-pub cost_of_one : (r : Replica) (c : EditCommand) (t : Transaction) (old new : ℕ) → change_on r c ≡ Ok t → new ≤ old + steps_of t r.items →
+pub cost_of_one : (r : Replica) (c : EditCommand) (t : Transaction) (old new : ℕ) → change_on r c ≡ Ok t → new ≤ old + cost_of_transaction t r.items →
     new ≤ old + cost_of_transactions (made_of (change_on r c)) r.items
 cost_of_one r c t old new e h =
     let one : new ≤ old + cost_of_transactions (t ∷ []) r.items = omega (arith, h) in
@@ -272,5 +272,5 @@ lone_batch r c t e = batch_next 0 c [] r t e
 pub lone_refused : (r : Replica) (c : EditCommand) (why : Refusal) → change_on r c ≡ Err why → batch_on r (c ∷ []) ≡ Err (record { at = 0; refusal = why })
 lone_refused r c why e = batch_ends 0 c [] r why e
 
-pub cost_of_lone : (r : Replica) (c : EditCommand) (t : Transaction) (old new : ℕ) → change_on r c ≡ Ok t → new ≤ old + steps_of t r.items → new ≤ old + cost_of_changes r (c ∷ [])
+pub cost_of_lone : (r : Replica) (c : EditCommand) (t : Transaction) (old new : ℕ) → change_on r c ≡ Ok t → new ≤ old + cost_of_transaction t r.items → new ≤ old + cost_of_changes r (c ∷ [])
 cost_of_lone r c t old new e h = let own = cost_of_one r c t old new e h in let all = first_of_all r c [] in omega (arith, own, all)

@@ -2,7 +2,8 @@
 ghost use Rattle.std.specs.Prelude.{◌≡◌, ◌≢◌, ◌≤◌, ◌+◌, true, length, IfOk, IfErr, OnOk};
 ghost use Rattle.model_site_law.specs.Sound.{Sound};
 ghost use Rattle.model_world.specs.Edits.{batch_on, change_on};
-ghost use Rattle.model_world_law.specs.Cost.{cost_of_made, cost_of_transactions, made_in_turn, made_of};
+ghost use Rattle.model_change.specs.Cost.{cost_of_transactions};
+ghost use Rattle.model_world.specs.Cost.{cost_of_made, made_in_turn, made_of};
 ghost use Rattle.model_world_law.specs.Fit.{AllWritten, IsWritten};
 ghost use Rattle.ve_changes.specs.Stops.{IsRefused};
 ghost use Rattle.ve_changes.specs.Batches.{IsBatch, IsBatchRefused, IsMade, IsPerformed, no_entry};

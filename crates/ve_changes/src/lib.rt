@@ -5,7 +5,7 @@
 //! the draft that the model says, over the page's store and with just the values that the store
 //! takes. Else it is the model's refusal. Changes made in turn are the model's transactions and one
 //! entry, or the first refusal with its number. They take no more steps than the `Cost` of
-//! model_world_law says.
+//! model_world says.
 //!
 //! - `change_draft` gives the draft of a change over a page's store, or the refusal that answers
 //!   it. `move_draft` gives the draft of a row, a column or a list item that is moved. Each calls

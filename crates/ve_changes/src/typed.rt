@@ -4,7 +4,7 @@ ghost use Rattle.model_site.specs.Replica.{Replica};
 ghost use Rattle.model_site_law.specs.Sound.{Sound};
 ghost use Rattle.model_world.specs.Answers as model;
 ghost use Rattle.model_world.specs.Edits.{batch_on};
-ghost use Rattle.model_world_law.specs.Cost.{cost_of_made, made_in_turn};
+ghost use Rattle.model_world.specs.Cost.{cost_of_made, made_in_turn};
 ghost use Rattle.ve_changes.specs.Batches.{IsBatch, IsBatchRefused, IsTyped};
 
 use crate::BatchStop;

@@ -6,7 +6,8 @@ use Rattle.ve_kinds.specs.declared.kind.Kind.TheVariants.{P}
 use Rattle.model_items.specs.declared.plain_item.PlainItem.{PlainItem}
 use Rattle.model_items.specs.declared.plain_item.PlainItem.TheVariants.{Char, Closing, Opening}
 use Rattle.model_change.specs.Transaction.{Replace, Retain, Transaction}
-use Rattle.ve_editor.specs.Counted.{steps_of, steps_after, steps_of_copy, steps_over}
+use Rattle.model_change.specs.Cost.{cost_of_transaction, cost_of_transactions}
+use Rattle.ve_editor.specs.Counted.{steps_of_copy, steps_over}
 
 abbrev head : Head
 head = record { tag = []; attrs = []; raw = []; reference = None; owner = false }
@@ -36,7 +37,7 @@ none_counts_nothing : steps_over [] empty ≡ 0
 none_counts_nothing = refl
 
 -- without the copy
-only_transactions : steps_after (typing ∷ erasing ∷ []) empty ≡ 40 + 40
+only_transactions : cost_of_transactions (typing ∷ erasing ∷ []) empty ≡ 40 + 40
 only_transactions = refl
 
 no_copy_for_one : steps_of_copy (erasing ∷ []) empty ≡ 0
@@ -46,5 +47,5 @@ no_copy_for_one = refl
 abbrev typing_below : Transaction
 typing_below = Retain 3 ∷ Replace [] letter ∷ Retain 1 ∷ []
 
-others_are_not_counted : steps_of typing_below (empty ++ empty) ≡ 40
+others_are_not_counted : cost_of_transaction typing_below (empty ++ empty) ≡ 40
 others_are_not_counted = refl

@@ -5,8 +5,9 @@ use Rattle.model_items.specs.declared.plain_item.PlainItem.{PlainItem}
 use Rattle.model_change.specs.Transaction.{Transaction, edited}
 use Rattle.model_change.specs.Inverse.{inverse}
 use Rattle.model_change.specs.Replay.{reversal}
-use Rattle.ve_tree.specs.TreeOf.{most_steps}
-use Rattle.ve_editor.specs.Counted.{steps_of, steps_after, steps_of_copy, steps_over}
+use Rattle.model_items.specs.Cost.{cost_of_tree}
+use Rattle.model_change.specs.Cost.{cost_of_transaction, cost_of_transactions}
+use Rattle.ve_editor.specs.Counted.{steps_of_copy, steps_over}
 
 first_of : (now after all a b : ℕ) → now + (a + b) ≤ all → after ≤ now + a → after ≤ all
 first_of now after all a b h k = omega arith
@@ -26,43 +27,43 @@ in_turn now copied after a b h k = omega arith
 -- The count stands at `now` before a transaction and at `after` past it; `all` bounds it to the
 -- end. The transaction is known under two names.
 module _ (t same : Transaction) (rest : List Transaction) (items : List PlainItem) (now after all : ℕ) (is : same ≡ t)
-    (bound : now + steps_after (t ∷ rest) items ≤ all) (took : after ≤ now + steps_of same items) where
-  took_one : after ≤ now + steps_of t items
-  took_one = subst (λ u. after ≤ now + steps_of u items) is took
+    (bound : now + cost_of_transactions (t ∷ rest) items ≤ all) (took : after ≤ now + cost_of_transaction same items) where
+  took_one : after ≤ now + cost_of_transaction t items
+  took_one = subst (λ u. after ≤ now + cost_of_transaction u items) is took
 
   pub within_all : after ≤ all
-  within_all = first_of now after all (steps_of t items) (steps_after rest (edited t items)) bound took_one
+  within_all = first_of now after all (cost_of_transaction t items) (cost_of_transactions rest (edited t items)) bound took_one
 
-  pub left_within_all : (made : List PlainItem) → made ≡ edited t items → after + steps_after rest made ≤ all
+  pub left_within_all : (made : List PlainItem) → made ≡ edited t items → after + cost_of_transactions rest made ≤ all
   left_within_all made e =
-      subst (λ l. after + steps_after rest l ≤ all) (sym e) (first_and now after all (steps_of t items) (steps_after rest (edited t items)) bound took_one)
+      subst (λ l. after + cost_of_transactions rest l ≤ all) (sym e) (first_and now after all (cost_of_transaction t items) (cost_of_transactions rest (edited t items)) bound took_one)
 
 -- one transaction alone, without a copy
 pub one_within : (t same : Transaction) (ts : List Transaction) (items : List PlainItem) (now after : ℕ) → same ≡ t → ts ≡ t ∷ [] →
-    after ≤ now + steps_of same items → after ≤ now + steps_over ts items
+    after ≤ now + cost_of_transaction same items → after ≤ now + steps_over ts items
 one_within t same ts items now after is only took =
     subst (λ l. after ≤ now + steps_over l items) (sym only)
-    (more_than after now (steps_of t items) 0 (subst (λ u. after ≤ now + steps_of u items) is took))
+    (more_than after now (cost_of_transaction t items) 0 (subst (λ u. after ≤ now + cost_of_transaction u items) is took))
 
 -- more than one
 abbrev pub AreSeveral : List Transaction → Type 0
 AreSeveral ts = 2 ≤ length ts
 
-copy_counted : (ts : List Transaction) (items : List PlainItem) → AreSeveral ts → steps_of_copy ts items ≡ most_steps items
+copy_counted : (ts : List Transaction) (items : List PlainItem) → AreSeveral ts → steps_of_copy ts items ≡ cost_of_tree items
 copy_counted [] items several = absurd (omega (arith, several))
 copy_counted (t ∷ []) items several = absurd (omega (arith, several))
 copy_counted (t ∷ u ∷ ts) items several = refl
 
 -- a copy, and the transactions on it
-pub copied_within : (ts : List Transaction) (items : List PlainItem) (now copied after : ℕ) → AreSeveral ts → copied ≤ now + most_steps items → after ≤ copied + steps_after ts items →
+pub copied_within : (ts : List Transaction) (items : List PlainItem) (now copied after : ℕ) → AreSeveral ts → copied ≤ now + cost_of_tree items → after ≤ copied + cost_of_transactions ts items →
     after ≤ now + steps_over ts items
 copied_within ts items now copied after several h k =
-    subst (λ n. after ≤ now + (n + steps_after ts items)) (sym (copy_counted ts items several)) (in_turn now copied after (most_steps items) (steps_after ts items) h k)
+    subst (λ n. after ≤ now + (n + cost_of_transactions ts items)) (sym (copy_counted ts items several)) (in_turn now copied after (cost_of_tree items) (cost_of_transactions ts items) h k)
 
 -- a copy for which memory is short
-pub copy_within : (ts : List Transaction) (items : List PlainItem) (now after : ℕ) → AreSeveral ts → after ≤ now + most_steps items → after ≤ now + steps_over ts items
+pub copy_within : (ts : List Transaction) (items : List PlainItem) (now after : ℕ) → AreSeveral ts → after ≤ now + cost_of_tree items → after ≤ now + steps_over ts items
 copy_within ts items now after several h =
-    subst (λ n. after ≤ now + (n + steps_after ts items)) (sym (copy_counted ts items several)) (and_more now after (most_steps items) (steps_after ts items) h)
+    subst (λ n. after ≤ now + (n + cost_of_transactions ts items)) (sym (copy_counted ts items several)) (and_more now after (cost_of_tree items) (cost_of_transactions ts items) h)
 
 -- neither none nor one
 are_two : {A : Type 0} (xs : List A) → (length xs ≡ 0 → ⊥) → (length xs ≡ 1 → ⊥) → 2 ≤ length xs

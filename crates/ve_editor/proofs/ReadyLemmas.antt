@@ -12,7 +12,8 @@ use Rattle.model_items.proofs.VerdictLemmas.{verdict_reads_no_values}
 use Rattle.model_change.specs.Transaction.{Transaction, edited}
 use Rattle.ve_items.specs.ItemList.{ItemList}
 use Rattle.ve_tree.specs.IsTree.{unvalued}
-use Rattle.ve_tree.specs.TreeOf.{IsTreeOf, most_steps}
+use Rattle.model_items.specs.Cost.{cost_of_tree}
+use Rattle.ve_tree.specs.TreeOf.{IsTreeOf}
 use Rattle.ve_tx.specs.Applied.{plain_after}
 use Rattle.ve_tx.specs.Cites.{TxCites}
 use Rattle.ve_tx.specs.Making.{Extends}
@@ -28,12 +29,12 @@ use Rattle.ve_editor.specs.Prepared.{WillBe}
 pub lawful_unvalued : (values : List Value) (items : List Item) (made : List PlainItem) → plain_list values items ≡ made → Lawful made → Lawful (unvalued items)
 lawful_unvalued values items made e lawful = verdict_reads_no_values [] values items ∙ subst Lawful (sym e) lawful
 
-pub steps_unvalued : (values : List Value) (items : List Item) (made : List PlainItem) → plain_list values items ≡ made → most_steps (unvalued items) ≡ most_steps made
-steps_unvalued values items made e = ap (λ f. 8 * (node_count f + 2)) (tree_reads_no_values [] values items) ∙ ap most_steps e
+pub steps_unvalued : (values : List Value) (items : List Item) (made : List PlainItem) → plain_list values items ≡ made → cost_of_tree (unvalued items) ≡ cost_of_tree made
+steps_unvalued values items made e = ap (λ f. 8 * (node_count f + 2)) (tree_reads_no_values [] values items) ∙ ap cost_of_tree e
 
 -- a bound on steps that a callee keeps
 pub steps_within : (values : List Value) (items : List Item) (made : List PlainItem) (old new : ℕ) → plain_list values items ≡ made →
-    new ≤ old + most_steps (unvalued items) → new ≤ old + most_steps made
+    new ≤ old + cost_of_tree (unvalued items) → new ≤ old + cost_of_tree made
 steps_within values items made old new e h = subst (λ n. new ≤ old + n) (steps_unvalued values items made e) h
 
 pub will_be : (t : Transaction) (old new : List Value) (list : ItemList) (items : List Item) (linked : Tree) (change : Change) →

@@ -20,7 +20,7 @@ use Rattle.ve_tree.specs.TreeOf.{IsTreeOf}
 use Rattle.ve_tree.specs.declared.tree.Tree.{Tree}
 use Rattle.ve_tree.proofs.ShapeLemmas.{lawful-shapes, shapes_read}
 use Rattle.ve_tx.specs.Operation.{Operation, Retain, Replace, Attribute, by_value}
-use Rattle.ve_editor.specs.Counted.{steps_of}
+use Rattle.model_change.specs.Cost.{cost_of_transaction}
 
 shape_alike : (values others : List Value) (x : Item) → shape_of (plain values x) ≡ shape_of (plain others x)
 shape_alike values others (item.Char ch marks) = refl
@@ -77,5 +77,5 @@ made_tree linked values new tx items made e tree =
 
 -- the bound, of a transaction and a list that are the same over those values
 pub within_touch : (values : List Value) (tx : List Operation) (items : List Item) (t : Transaction) (l : List PlainItem) (old new : ℕ) →
-    touch (by_value values tx) (plain_list values items) ≡ touch t l → IsWithinTouch old new tx items → new ≤ old + steps_of t l
+    touch (by_value values tx) (plain_list values items) ≡ touch t l → IsWithinTouch old new tx items → new ≤ old + cost_of_transaction t l
 within_touch values tx items t l old new e within = subst (λ n. new ≤ old + 8 * (n + 2)) e (within values)

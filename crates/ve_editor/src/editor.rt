@@ -12,7 +12,7 @@ ghost use Rattle.model_site.specs.Replica.{all_filled, all_performed, all_put_ba
 ghost use Rattle.ve_tx.specs.Cites.{TxCites};
 ghost use Rattle.ve_tx.specs.Operation.{by_value};
 ghost use Rattle.ve_tree.specs.IsTree.{unvalued};
-ghost use Rattle.ve_tree.specs.TreeOf.{most_steps};
+ghost use Rattle.model_items.specs.Cost.{cost_of_tree};
 
 use crate::perform::{ready, ready_back, ready_other};
 use crate::prepare::commit;
@@ -56,7 +56,8 @@ impl Editor {
     ghost use Rattle.ve_editor.specs.Edited.{IsDraftOf, drafted, entry_by_value, EntryCites, AllStand, CanBeReverted, CutsUncited, IsUncited, reversal_over};
     ghost use Rattle.ve_tx.specs.ByValue.{parcel_by_value, ParcelCites};
     ghost use Rattle.ve_editor.specs.Refusal.{IsEditRefusal};
-    ghost use Rattle.ve_editor.specs.Counted.{steps_of, steps_after, steps_over};
+    ghost use Rattle.model_change.specs.Cost.{cost_of_transaction, cost_of_transactions};
+    ghost use Rattle.ve_editor.specs.Counted.{steps_over};
 
     /// An editor of a lawful list whose items cite values of the store, with the selection at the
     /// start. Its tree is built, in at most eight steps for each node and sixteen more.
@@ -70,7 +71,7 @@ impl Editor {
         requires cites { All (CitesWell store) list.items }
         ensures ok { IfOk result (λ editor. editor ≡ page_of store list.items (between 0 0)) }
         ensures counted { steps.old ≤ steps.new }
-        ensures steps { steps.new ≤ steps.old + most_steps (plain_list store list.items) }
+        ensures steps { steps.new ≤ steps.old + cost_of_tree (plain_list store list.items) }
     {
         let tree = Tree::build(alloc, &list, steps)?;
         Ok(Editor {
@@ -91,7 +92,7 @@ impl Editor {
     pub fn copy<L: Ledger>(&self, steps: &mut Steps<L>) -> Result<Editor, Memory>
         ensures ok { IfOk result (λ copy. copy ≡ self.now) }
         ensures counted { steps.old ≤ steps.new }
-        ensures steps { steps.new ≤ steps.old + most_steps self.now.items }
+        ensures steps { steps.new ≤ steps.old + cost_of_tree self.now.items }
     {
         let list = self.list.copy(self.alloc)?;
         let store = self.store.copy(self.alloc)?;
@@ -163,7 +164,7 @@ impl Editor {
         ensures kept { OnErr result (self.new ≡ self.old) }
         ensures counted { steps.old ≤ steps.new }
         ensures steps { steps.new
-            ≤ steps.old + steps_of (drafted self.old.store draft.now) self.old.items }
+            ≤ steps.old + cost_of_transaction (drafted self.old.store draft.now) self.old.items }
         ensures unstepped { IfErr result (λ why. why ≢ EditFault.Memory → steps.new ≡ steps.old) }
     {
         let before = self.store.len();
@@ -206,7 +207,7 @@ impl Editor {
         ensures kept { OnErr result (self.new ≡ self.old) }
         ensures counted { steps.old ≤ steps.new }
         ensures steps { steps.new
-            ≤ steps.old + steps_of (by_value self.old.store tx.now) self.old.items }
+            ≤ steps.old + cost_of_transaction (by_value self.old.store tx.now) self.old.items }
     {
         let before = self.store.len();
         match ready_back(
@@ -296,7 +297,7 @@ impl Editor {
         ensures kept { OnErr result (self.new ≡ self.old) }
         ensures counted { steps.old ≤ steps.new }
         ensures steps { steps.new
-            ≤ steps.old + steps_of (by_value values.now tx.now) self.old.items }
+            ≤ steps.old + cost_of_transaction (by_value values.now tx.now) self.old.items }
     {
         let stored = self.store.len();
         match ready_other(

@@ -6,7 +6,7 @@ ghost use Rattle.model_site.specs.Replica.{all_filled, all_performed, all_put_ba
 ghost use Rattle.ve_tx.specs.ByValue.{parcel_by_value, ParcelCites};
 ghost use Rattle.ve_tx.specs.Cites.{TxCites};
 ghost use Rattle.ve_tx.specs.Operation.{by_value};
-ghost use Rattle.ve_editor.specs.Counted.{steps_after};
+ghost use Rattle.model_change.specs.Cost.{cost_of_transactions};
 ghost use Rattle.ve_editor.specs.Edited.{entry_by_value, EntryCites, AllStand, CanBeReverted, CutsUncited, reversal_over};
 
 use crate::Editor;
@@ -28,7 +28,7 @@ impl Editor {
             self.new ≡ all_put_back (reversal_over self.old.store txs.now) self.old) }
         ensures counted { steps.old ≤ steps.new }
         ensures steps { steps.new
-            ≤ steps.old + steps_after (reversal_over self.old.store txs.now) self.old.items }
+            ≤ steps.old + cost_of_transactions (reversal_over self.old.store txs.now) self.old.items }
     {
         for n in 0..txs.len() {
             let tx = &txs[txs.len() - 1 - n];
@@ -56,7 +56,7 @@ impl Editor {
         ensures cites { IfOk result (λ kept. All (TxCites self.new.store) kept) }
         ensures counted { steps.old ≤ steps.new }
         ensures steps { steps.new
-            ≤ steps.old + steps_after (map (by_value values.now) txs.now) self.old.items }
+            ≤ steps.old + cost_of_transactions (map (by_value values.now) txs.now) self.old.items }
     {
         let mut kept = TxList::new(self.alloc);
         for tx in txs {
@@ -83,7 +83,7 @@ impl Editor {
         ensures cites { IfOk result (EntryCites self.new.store) }
         ensures counted { steps.old ≤ steps.new }
         ensures steps { steps.new
-            ≤ steps.old + steps_after (parcel_by_value parcel.now) self.old.items }
+            ≤ steps.old + cost_of_transactions (parcel_by_value parcel.now) self.old.items }
     {
         let store_before = self.store.len();
         let txs = self.perform_others(
@@ -112,7 +112,7 @@ impl Editor {
             self.new ≡ reverted (entry_by_value self.old.store entry.now) self.old) }
         ensures counted { steps.old ≤ steps.new }
         ensures steps { steps.new
-            ≤ steps.old + steps_after (reversal_over self.old.store entry.now.txs) self.old.items }
+            ≤ steps.old + cost_of_transactions (reversal_over self.old.store entry.now.txs) self.old.items }
     {
         let was = self.store.len();
         self.put_all_back(entry.txs.as_slice(), steps)?;

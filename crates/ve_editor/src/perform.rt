@@ -17,7 +17,7 @@ ghost use Rattle.ve_tx.specs.Operation.{by_value};
 ghost use Rattle.ve_repair.specs.Change.{LawfulAfter};
 ghost use Rattle.ve_repair.specs.Kept.{KeepsNumbers};
 ghost use Rattle.ve_repair.specs.Repaired.{IsTreeOfAfter, IsWithinTouch};
-ghost use Rattle.ve_editor.specs.Counted.{steps_of};
+ghost use Rattle.model_change.specs.Cost.{cost_of_transaction};
 ghost use Rattle.ve_editor.specs.Edited.{IsDraftOf, drafted};
 ghost use Rattle.ve_editor.specs.Page.{IsPage, page_of};
 ghost use Rattle.ve_editor.specs.Prepared.{IsReadyBack, IsReadyOther, MayPerform};
@@ -158,7 +158,7 @@ pub fn ready<L: Ledger>(
     ensures extends { Extends store.old store.new }
     ensures counted { steps.old ≤ steps.new }
     ensures steps { steps.new
-        ≤ steps.old + steps_of (drafted store.old draft.now) (plain_list store.old list.old.items) }
+        ≤ steps.old + cost_of_transaction (drafted store.old draft.now) (plain_list store.old list.old.items) }
     ensures unstepped { IfErr result (λ why. why ≢ EditFault.Memory → steps.new ≡ steps.old) }
 {
     let before = store.len();
@@ -212,7 +212,7 @@ pub fn ready_back<L: Ledger>(
     ensures extends { Extends store.old store.new }
     ensures counted { steps.old ≤ steps.new }
     ensures steps { steps.new
-        ≤ steps.old + steps_of (by_value store.old tx.now) (plain_list store.old list.old.items) }
+        ≤ steps.old + cost_of_transaction (by_value store.old tx.now) (plain_list store.old list.old.items) }
 {
     match tx.change(alloc, list, store) {
         Ok(change) => {
@@ -248,7 +248,7 @@ pub fn ready_other<L: Ledger>(
     ensures extends { Extends store.old store.new }
     ensures counted { steps.old ≤ steps.new }
     ensures steps { steps.new
-        ≤ steps.old + steps_of (by_value values.now tx.now) (plain_list store.old list.old.items) }
+        ≤ steps.old + cost_of_transaction (by_value values.now tx.now) (plain_list store.old list.old.items) }
 {
     // its type keeps that it is in normal form, which `ops` tells
     let _ops = tx.ops();

@@ -24,7 +24,7 @@ fn without_id(alloc: Global, attrs: &[Attr]) -> Result<Attrs, Memory>
         }
         made.push(attr.copy(alloc)?)?;
     }
-    Ok(made)
+    Ok(made.shared(alloc))
 }
 
 /// The attributes of a head that is cited.

@@ -70,6 +70,40 @@ impl History {
         Ok(())
     }
 
+    /// Takes room as `reserve` does, where there is an entry to undo. Where there is none it takes no
+    /// memory. An `Err` changes nothing.
+    pub fn reserve_undo(&mut self) -> Result<(), Memory>
+        ensures done { self.new.done ≡ self.old.done }
+        ensures undone { self.new.undone ≡ self.old.undone }
+        ensures ok { OnOk result (self.old.done ≢ [] → 1 ≤ self.new.spare) }
+        ensures spare { self.old.spare ≤ self.new.spare }
+        ensures err { OnErr result (self.new ≡ self.old) }
+        ensures none { self.old.done ≡ [] → IsOk result }
+        ensures within { 1 ≤ self.old.spare → IsOk result }
+    {
+        if self.done.is_empty() {
+            return Ok(());
+        }
+        self.reserve()
+    }
+
+    /// Takes room as `reserve` does, where there is a parcel to redo. Where there is none it takes
+    /// no memory. An `Err` changes nothing.
+    pub fn reserve_redo(&mut self) -> Result<(), Memory>
+        ensures done { self.new.done ≡ self.old.done }
+        ensures undone { self.new.undone ≡ self.old.undone }
+        ensures ok { OnOk result (self.old.undone ≢ [] → 1 ≤ self.new.spare) }
+        ensures spare { self.old.spare ≤ self.new.spare }
+        ensures err { OnErr result (self.new ≡ self.old) }
+        ensures none { self.old.undone ≡ [] → IsOk result }
+        ensures within { 1 ≤ self.old.spare → IsOk result }
+    {
+        if self.undone.is_empty() {
+            return Ok(());
+        }
+        self.reserve()
+    }
+
     /// Puts a new entry on the first stack; nothing can be redone then. It succeeds within the
     /// spare room, of which it takes one. An `Err` changes nothing.
     pub fn push(&mut self, entry: Entry) -> Result<(), Memory>

@@ -9,7 +9,7 @@
 //! stack.
 //!
 //! Room is taken first: a push or a move succeeds where there is spare room, so a change can be
-//! made and noted as one.
+//! made and noted as one. Where nothing can be undone or redone, none is taken for that.
 #![tactic(auto)]
 
 mod history;

@@ -6,7 +6,8 @@ use Rattle.std.proofs.Common.{ap, subst}
 use Rattle.ve_base.specs.declared.head.RefKey.{RefKey}
 use Rattle.model_items.specs.Same.{ref_key_same, text_same}
 use Rattle.model_items.proofs.SameLemmas.{Means-ref_key_same, Means-text_same}
-use Rattle.ve_store.specs.HashInput.{text_input, key_input}
+use Rattle.ve_base.specs.Digest.{text_input}
+use Rattle.ve_store.specs.HashInput.{key_input}
 
 -- the input of a key's hash
 abbrev pub ref_key_input : RefKey → List (List ℕ)

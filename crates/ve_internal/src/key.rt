@@ -1,7 +1,7 @@
 // The key of a reference, and its group alone, as keys of hash tables. Both are borrowed, so that
 // nothing is copied for a look-up.
 ghost use Rattle.std.specs.Prelude.{◌≡◌, ◌↔◌, IsTrue, fold};
-ghost use Rattle.ve_store.specs.HashInput.{text_input};
+ghost use Rattle.ve_base.specs.Digest.{text_input};
 ghost use Rattle.ve_internal.specs.Keys.{ref_key_input};
 
 use std::hash::{Hash, Hasher};
@@ -104,7 +104,7 @@ impl<'a> Eq for LentGroup<'a> {
 
 impl<'a> Hash for LentGroup<'a> {
     ghost use Rattle.ve_internal.specs.Keys.{text_input-same};
-    ghost use Rattle.ve_store.specs.HashInput.{text_input};
+    ghost use Rattle.ve_base.specs.Digest.{text_input};
 
     ghost hash_input = { text_input };
 

@@ -10,8 +10,8 @@ use Rattle.ve_base.specs.Names.{names, NamesApart}
 use Rattle.model_items.specs.Same.{text_same}
 use Rattle.model_items.proofs.SameLemmas.{Means-text_same}
 use Rattle.model_world.specs.Attributes.{are_apart}
-use Rattle.ve_json.specs.Noted.{HaveSameNames}
-use Rattle.ve_json.proofs.NotedLemmas.{first_or_later, is_first}
+use Rattle.ve_tx.specs.Noted.{HaveSameNames}
+use Rattle.ve_tx.proofs.NotedLemmas.{first_or_later, is_first}
 
 pub text_decides : (s t : List ℕ) → Decides (text_same s t) (s ≡ t)
 text_decides s t = (Means-text_same.equal s t, λ same. let P : List ℕ → Type 0 = λ u. text_same s u ≡ true in subst P same (Means-text_same.itself s))

@@ -10,6 +10,5 @@ pub mod MemberLemmas
 pub mod RangeLemmas
 pub mod RunLemmas
 pub mod ShownLemmas
-mod NotedLemmas
 mod ApartLemmas
 mod SettingLemmas

@@ -1,15 +1,15 @@
 -- Attributes that are set at one position, looked for by their names.
 use Rattle.std.proofs.Common.{◌≡◌, ℕ, zero, suc, ◌+◌, ◌-◌, ◌<◌, ◌≤◌, Bool, true, false, ◌&&◌, not, List, [], ◌∷◌, ◌++◌, length, take, drop, get_or, map, Option, Some, None, Contains, ◌⊎◌, ◌↔◌, refl, sym, ap, ◌∙◌, subst, arith, inl, inr}
 use Rattle.std.proofs.lemmas.Bool.{false_from_ne_true, and_parts}
-use Rattle.std.proofs.lemmas.List.{take_all, length-drop, at_drop_more}
+use Rattle.std.proofs.lemmas.List.{at_drop_more}
 use Rattle.model_items.specs.Same.{text_same}
 use Rattle.model_world.specs.declared.edit_command.OpWords.{OpWords}
 use Rattle.model_world.specs.declared.edit_command.OpWords.TheVariants.{Retain, Remove, Attr as Setting}
 use Rattle.model_world.specs.Operations.{word_is_something, word_may_precede, words_are_normal}
-use Rattle.ve_json.specs.Noted.{HaveSameNames}
+use Rattle.ve_tx.specs.Noted.{HaveSameNames}
 use Rattle.ve_json.specs.Settings.{names_set, may_follow_setting}
 use Rattle.ve_json.proofs.ApartLemmas.{text_decides, not_both}
-use Rattle.ve_json.proofs.NotedLemmas.{first_or_later, is_first, is_later}
+use Rattle.ve_tx.proofs.NotedLemmas.{first_or_later, is_first, is_later}
 
 -- ---- the setting of an attribute before others
 
@@ -60,18 +60,7 @@ noted_set name to later noted new same otherwise is =
     twice : ¬ (¬ Contains (names_set later) name)
     twice none = let new_one = otherwise (λ h. none ((same name).0 h)) in cc
 
--- ---- the names that were noted, with one more before those of a list
-
-pub one_more_set : (name : List ℕ) (noted more texts : List (List ℕ)) → HaveSameNames noted texts → ((other : List ℕ) → Contains more other ↔ ((name ≡ other) ⊎ Contains noted other)) → HaveSameNames more (name ∷ texts)
-one_more_set name noted more texts same noting other = (
-  λ h. elim ((noting other).0 h) [ inl is ↦ is_first name other texts is | inr before ↦ is_later name other texts ((same other).0 before) ],
-  λ h. elim (first_or_later name other texts h) [ inl is ↦ (noting other).1 (inl is) | inr before ↦ (noting other).1 (inr ((same other).1 before)) ],
-)
-
 -- ---- operations from the last one back
-
-pub rest_of : {A : Type 0} (xs : List A) (k : ℕ) → take (length xs - k) (drop k xs) ≡ drop k xs
-rest_of xs k = take_all (length xs - k) (drop k xs) (omega (arith, length-drop k xs))
 
 normal_later : (ops : List OpWords) (k : ℕ) → words_are_normal ops ≡ true → words_are_normal (drop k ops) ≡ true
 normal_later ops zero normal = normal

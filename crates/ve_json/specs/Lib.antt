@@ -10,5 +10,4 @@ pub mod ReplyWords
 pub mod ReplyMembers
 pub mod Runs
 pub mod Answers
-pub mod Noted
 pub mod Settings

@@ -10,14 +10,13 @@ ghost use Rattle.model_world.specs.Values as values;
 ghost use Rattle.ve_json.specs.Gives.{Reads};
 
 use crate::fault::ValueFault;
-use crate::names::Names;
 use crate::values::{member, pair_in, text_in, values_in};
 use model_edit::{Kinds, Shape, Shapes};
 use serde_json::{Map, Value};
 use std::alloc::Global;
 use ve_base::{Attr, Attrs, ListOf, MAX_MARKS, Mark, Marks, Memory, Text};
 use ve_kinds::{Kind, is_annotation_tag, kind_of_tag};
-use ve_tx::is_reserved;
+use ve_tx::{Names, is_reserved};
 
 /// Whether it is a letter, a digit, `-`, `_`, `.` or `:`.
 fn is_name_char(ch: char) -> bool
@@ -95,7 +94,7 @@ fn attrs_of(alloc: Global, list: &[Value]) -> Result<Attrs, ValueFault>
     if !apart {
         return Err(ValueFault::IllFormed);
     }
-    Ok(Attrs::from_vec(attrs.into_vec()))
+    Ok(Attrs::from_vec(attrs.into_vec()).shared(alloc))
 }
 
 /// A list of attributes with distinct names.
@@ -110,7 +109,7 @@ fn are_free(attrs: &[Attr]) -> bool
     ensures { result ≡ attributes.are_free attrs.now }
 {
     for attr in attrs {
-        if is_reserved(&attr.name) {
+        if is_reserved(attr.name.as_str()) {
             return false;
         }
     }

@@ -33,7 +33,6 @@ mod item_replies;
 mod json_list;
 mod line;
 mod members;
-mod names;
 mod operations;
 mod quoted;
 mod refusals;

@@ -4,18 +4,18 @@ ghost use Rattle.std.specs.Prelude.{◌≡◌, ◌∷◌, true, IfOk};
 ghost use Rattle.serde_json.specs.View.{view, members_view};
 ghost use Rattle.model_world.specs.Operations as operations;
 ghost use Rattle.ve_json.specs.Gives.{Reads};
-ghost use Rattle.ve_json.specs.Noted.{HaveSameNames};
+ghost use Rattle.ve_tx.specs.Noted.{HaveSameNames};
 ghost use Rattle.ve_json.specs.Settings.{names_set, may_follow_setting};
 
 use crate::attributes::name_in;
 use crate::fault::ValueFault;
 use crate::item_members::all_items_in;
-use crate::names::Names;
 use crate::values::{member, number_in, text_or_null_in, values_in};
 use model_world::{OpWordList, OpWords};
 use serde_json::{Map, Value};
 use std::alloc::Global;
 use ve_base::Memory;
+use ve_tx::Names;
 
 /// `{"remove":n,"insert":items}`, of which `n` was found.
 fn removal_in(

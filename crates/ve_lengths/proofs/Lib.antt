@@ -1,4 +1,5 @@
 mod Examples
 pub mod FindLemmas
 pub mod GroupLemmas
+pub mod ShiftLemmas
 pub mod StartLemmas

@@ -87,7 +87,7 @@ pub read_at : (xs : List ℕ) (i x : ℕ) → i < length xs → x ≡ get_or xs 
 read_at xs i x lt e = e ∙ get_or_default xs i x 0 lt
 
 -- a slice that was borrowed whole and written back
-written_back : (old new : List ℕ) (n : ℕ) → n ≡ length old → length new ≡ length old → take n (new ++ drop (length new) old) ≡ new
+pub written_back : (old new : List ℕ) (n : ℕ) → n ≡ length old → length new ≡ length old → take n (new ++ drop (length new) old) ≡ new
 written_back old new n all same =
     take-append-le n new (drop (length new) old) (omega (arith, all, same)) ∙ take_all n new (omega (arith, all, same))
 

@@ -3,7 +3,7 @@ ghost use Rattle.std.specs.Prelude.{◌≡◌, ◌≤◌, ◌<◌, ◌+◌, ◌-
 ghost use Rattle.std.specs.Prelude.{length, take, drop, insert, max, sum, slice_index, slice_set, option_to_list};
 ghost use Rattle.ve_lengths.specs.Starts.{Finds};
 
-use crate::reckon::{GROUP, cut_out, lower, raise, reckon};
+use crate::reckon::{GROUP, cut_out, lower, raise, reckon, shift_back, shift_on};
 use std::alloc::Global;
 use std::marker::Model;
 use ve_base::Memory;
@@ -190,11 +190,27 @@ impl Lengths {
         ensures lens { self.new.lens ≡ insert self.old.lens k len }
         ensures room { self.new.room ≡ self.old.room }
     {
-        let group = k / GROUP;
-        let start = self.group_start(group);
+        if self.lens.len() % GROUP == 0 {
+            let grown = self.starts.push(self.total).is_ok();
+            prove!(grown);
+        }
         let inserted = self.lens.insert(k, len).is_ok();
         prove!(inserted);
-        self.total = reckon(&self.lens, &mut self.starts, group, start);
+        shift_on(&self.lens, &mut self.starts, k / GROUP + 1, len);
+        self.total += len;
+    }
+
+    /// Takes one length out.
+    fn take_one(&mut self, k: usize)
+        requires { k < length self.old.lens }
+        ensures lens { self.new.lens ≡ take k self.old.lens ++ drop (k + 1) self.old.lens }
+        ensures room { self.new.room ≡ self.old.room }
+    {
+        let len = self.lens.remove(k);
+        let groups = self.lens.len().div_ceil(GROUP);
+        self.starts.truncate(groups);
+        shift_back(&self.lens, &mut self.starts, k / GROUP + 1, len);
+        self.total -= len;
     }
 
     /// Takes the lengths from one up to another out. Where that is none, no other is looked at.
@@ -205,6 +221,11 @@ impl Lengths {
         ensures room { self.new.room ≡ self.old.room }
     {
         if from == to {
+            return;
+        }
+        // one, as most often: of each later group one length is looked at
+        if from + 1 == to {
+            self.take_one(from);
             return;
         }
         let group = from / GROUP;

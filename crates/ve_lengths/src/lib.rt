@@ -7,7 +7,7 @@
 //! It knows numbers alone, not what they measure. A length may be 0; their sum fits a `usize`.
 //! Beside each group of 16 lengths stands the sum of those before it. So a position is found by the
 //! starts of the groups and the lengths of one group. A length that changes moves the starts of the
-//! groups after it.
+//! groups after it; where one comes or goes, one length of each of these groups is read.
 //!
 //! Definitions: `LengthRow` is the view of the lengths, `Finds` the result of a search, and
 //! `AreStarts` the starts beside the groups. Law: a search has one answer.

@@ -1,6 +1,6 @@
 // The starts of groups, reckoned from their lengths.
-ghost use Rattle.std.specs.Prelude.{◌≡◌, ℕ, ◌≤◌, ◌<◌, ◌+◌, ◌*◌, ◌/◌, ◌^◌, ◌++◌, length, take, drop, sum, slice_index, vec_capacity};
-ghost use Rattle.ve_lengths.specs.Starts.{AreStarts, RaisedFrom};
+ghost use Rattle.std.specs.Prelude.{◌≡◌, ℕ, ◌≤◌, ◌<◌, ◌+◌, ◌-◌, ◌*◌, ◌/◌, ◌^◌, ◌++◌, length, take, drop, sum, slice_index, vec_capacity};
+ghost use Rattle.ve_lengths.specs.Starts.{AreShifted, AreShiftedBack, AreStarts, RaisedFrom};
 
 /// How many lengths stand in a group.
 pub const GROUP: usize = 16;
@@ -51,6 +51,42 @@ pub fn lower(starts: &mut [usize], first: usize, by: usize)
 {
     for group in first..starts.len() {
         starts[group] -= by;
+    }
+}
+
+/// The starts from one group on, when a length was put in before these groups: each length has
+/// moved on by one place, so each of these groups begins with the last one of the group before it.
+pub fn shift_on(lens: &[usize], starts: &mut [usize], first: usize, len: usize)
+    requires within { 16 * length starts.old < length lens.now + 16 }
+    requires fits { (g : ℕ)
+        → first ≤ g
+        → g < length starts.old
+        → slice_index starts.old g + len < 2 ^ 64 }
+    requires holds { (g : ℕ)
+        → first ≤ g
+        → g < length starts.old
+        → slice_index lens.now (16 * g) ≤ slice_index starts.old g + len }
+    ensures { AreShifted lens.now starts.old starts.new first len }
+{
+    for group in first..starts.len() {
+        starts[group] = starts[group] + len - lens[GROUP * group];
+    }
+}
+
+/// The starts from one group on, when a length was taken out before these groups: each length has
+/// moved back by one place, so the group before each of these ends with what was its first one.
+pub fn shift_back(lens: &[usize], starts: &mut [usize], first: usize, len: usize)
+    requires some { 0 < first }
+    requires within { 16 * length starts.old < length lens.now + 16 }
+    requires fits { (g : ℕ)
+        → first ≤ g
+        → g < length starts.old
+        → slice_index starts.old g + slice_index lens.now (16 * g - 1) < 2 ^ 64 }
+    requires holds { (g : ℕ) → first ≤ g → g < length starts.old → len ≤ slice_index starts.old g }
+    ensures { AreShiftedBack lens.now starts.old starts.new first len }
+{
+    for group in first..starts.len() {
+        starts[group] = starts[group] + lens[GROUP * group - 1] - len;
     }
 }
 

@@ -17,10 +17,11 @@
 //! - `Origins::compared` notes in a `Known` how far a node and its origin's are alike, and
 //!   `kept_after` is `kept` that compares none of that again (specs/Known.antt). Nodes in nodes are
 //!   so compared once.
-//! - `Origins::is_first` tells whether a whole list is the one that was first read.
+//! - `Origins::is_first_after` tells whether a whole list is the one that was first read, and
+//!   compares nothing that is known.
 //!
-//! No call takes memory but `OriginTable::push`. There are no laws here: that the node of each
-//! origin stands at its range, before the internal list, is for whoever reads a page to keep.
+//! No call takes memory but `OriginTable::push` and `copy`. There are no laws here: that the node of
+//! each origin stands at its range, before the internal list, is for whoever reads a page to keep.
 #![tactic(auto)]
 
 mod bodies;

@@ -5,12 +5,13 @@ ghost use Rattle.ve_origin.specs.Known.{AreAlike, IsKnown, IsCompared};
 ghost use Rattle.ve_origin.specs.Origins.{spans, first_read, items_had, FirstRead, IsCut, IsRow, AreRows, Keeps};
 
 use crate::carried::{Side, all_carry_same};
-use crate::compare::{alike, alike_after};
+use crate::compare::alike_after;
 use crate::known::Known;
 use crate::node::{run_of, same_node};
 use model_page::RefTable;
+use std::alloc::Global;
 use std::marker::Model;
-use ve_base::ListOf;
+use ve_base::{ListOf, Memory, TryCopy};
 use ve_html_scan::Span;
 use ve_items::Linear;
 
@@ -21,6 +22,12 @@ pub struct OriginRow {
     pub span: Span,
     pub from: usize,
     pub to: usize,
+}
+
+impl TryCopy for OriginRow {
+    fn copy(&self, _alloc: Global) -> Result<OriginRow, Memory> {
+        Ok(*self)
+    }
 }
 
 /// The origins of a page by their numbers.
@@ -93,16 +100,8 @@ impl<'a> Origins<'a> {
         &self.page[self.body.to..]
     }
 
-    /// Whether a list is the one that was first read. It stops at the first difference, and walks
-    /// over borrowed pieces.
-    pub fn is_first(&self, now: &Linear) -> bool
-        ensures { IsTrue result ↔ (now.now.items ≡ self.now.items) }
-    {
-        let len = now.len();
-        len == self.first.len() && alike(now, 0, self.first, 0, len) == len
-    }
-
-    /// As `is_first`, and what is known isn't compared again.
+    /// Whether a list is the one that was first read. What is known isn't compared again; it stops
+    /// at the first difference, and walks over borrowed pieces.
     pub fn is_first_after(&self, now: &Linear, known: Known) -> bool
         requires known { AreAlike now.now.items self.now.items known.alike }
         ensures { IsTrue result ↔ (now.now.items ≡ self.now.items) }

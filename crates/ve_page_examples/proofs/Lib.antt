@@ -4,3 +4,4 @@ mod OriginExamples
 mod ReadExamples
 mod ReaderExamples
 mod WriteExamples
+mod RangeExamples

@@ -29,7 +29,7 @@ pub fn attrs_of(alloc: Global, tokens: AttrTokens<'_>) -> Result<Attrs, Memory>
         let attr = attr_of(alloc, token)?;
         attrs.push(attr)?;
     }
-    Ok(attrs)
+    Ok(attrs.shared(alloc))
 }
 
 /// The head of a branch, or of `br` and `img`: its attributes alone.

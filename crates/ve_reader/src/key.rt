@@ -1,6 +1,6 @@
 // The key of a body as a key of a hash table.
 ghost use Rattle.std.specs.Prelude.{◌≡◌, fold};
-ghost use Rattle.ve_store.specs.HashInput.{text_input};
+ghost use Rattle.ve_base.specs.Digest.{text_input};
 ghost use Rattle.ve_internal.specs.Keys.{ref_key_input};
 
 use std::hash::{Hash, Hasher};

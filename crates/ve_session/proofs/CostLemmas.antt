@@ -1,36 +1,24 @@
 -- What the layers below count is no more than a line may take.
-use Rattle.std.proofs.Common.{◌≡◌, ◌≤◌, ◌+◌, ◌*◌, ℕ, true, false, List, [], ◌∷◌, length, refl, ap, sym, subst, ◌∙◌, arith, le-leb}
-use Rattle.std.specs.Prelude.{nat_le, nat_lt, None, Result, Ok, Err}
-use Rattle.model_change.specs.Join.{RangeConflict}
-use Rattle.model_change.specs.Replay.{reversal, revoke}
-use Rattle.model_change.specs.Transaction.{Transaction, edited}
+use Rattle.std.proofs.Common.{◌≡◌, ◌≤◌, ◌+◌, ◌*◌, ℕ, true, List, [], ◌∷◌, length, ap, sym, subst, arith, le-leb}
+use Rattle.std.specs.Prelude.{nat_le, nat_lt, if◌then◌else◌, None, Result, Ok, Err}
+use Rattle.model_change.specs.Transaction.{Transaction}
 use Rattle.model_items.specs.declared.plain_item.PlainItem.{PlainItem}
 use Rattle.model_page.specs.PageItems.{Opened}
-use Rattle.model_site.specs.Entries.{Entry, Parcel}
+use Rattle.model_site.specs.Entries.{Parcel}
+use Rattle.model_site.specs.Made.{redoing, revoking, undoing}
 use Rattle.model_site.specs.Refused.{edit_cause}
 use Rattle.model_site.specs.Replica.{Replica}
 use Rattle.model_site.specs.Session.{Member}
-use Rattle.model_site.specs.Site.{entries_of, init_and_last}
 use Rattle.model_world.specs.declared.command.Request.TheVariants as request
 use Rattle.model_world.specs.declared.edit_command.EditCommand.{EditCommand}
 use Rattle.model_world.specs.declared.refusal.Refusal.{Refusal}
 use Rattle.model_world.specs.Edits.{checked_transaction, unless_faulty}
-use Rattle.model_world_law.specs.Cost as cost
-use Rattle.model_world_law.specs.Cost.{cost_of_made, cost_of_opening, cost_of_request, cost_of_transactions, cost_of_tree, made_in_turn, made_of}
-use Rattle.ve_editor.specs.Counted.{steps_after, steps_over}
-use Rattle.ve_site.specs.Counted as counted
-use Rattle.ve_sites.specs.Turns as turns
-use Rattle.ve_sites.specs.Turns.{back_of}
-use Rattle.ve_tree.specs.TreeOf.{most_steps}
+use Rattle.model_change.specs.Cost.{cost_of_transactions}
+use Rattle.model_items.specs.Cost.{cost_of_tree}
+use Rattle.model_world.specs.Cost.{cost_of_made, cost_of_opening, cost_of_request, made_in_turn, made_of, revoking_seen}
+use Rattle.ve_editor.specs.Counted.{steps_over}
 
 -- ---- trees and transactions
-
-tree_is : (items : List PlainItem) → most_steps items ≡ cost_of_tree items
-tree_is items = omega arith
-
-pub all_are : (ts : List Transaction) (items : List PlainItem) → steps_after ts items ≡ cost_of_transactions ts items
-all_are [] items = refl
-all_are (t ∷ ts) items = let later = all_are ts (edited t items) in omega (arith, later)
 
 -- what is made on a copy only where it is several
 pub over_within : (ts : List Transaction) (items : List PlainItem) → steps_over ts items ≤ cost_of_made (nat_le 2 (length ts)) ts items
@@ -38,12 +26,11 @@ over_within [] items = omega arith
 over_within (t ∷ []) items = omega arith
 over_within (t ∷ u ∷ ts) items =
     let several : nat_le 2 (length (t ∷ u ∷ ts)) ≡ true = le-leb 2 (length (t ∷ u ∷ ts)) (omega arith) in
-    let all = all_are (t ∷ u ∷ ts) items in
-    subst (λ b. steps_over (t ∷ u ∷ ts) items ≤ cost_of_made b (t ∷ u ∷ ts) items) (sym several) (omega (arith, all))
+    subst (λ b. steps_over (t ∷ u ∷ ts) items ≤ cost_of_made b (t ∷ u ∷ ts) items) (sym several) (omega arith)
 
 -- ---- one transaction, made in place where it may be
 
-pub cost_of_performed : (r : Replica) (t : Transaction) (old new : ℕ) → edit_cause t r ≡ None → new ≤ old + steps_after (t ∷ []) r.items →
+pub cost_of_performed : (r : Replica) (t : Transaction) (old new : ℕ) → edit_cause t r ≡ None → new ≤ old + cost_of_transactions (t ∷ []) r.items →
     new ≤ old + cost_of_transactions (made_of (checked_transaction r (Ok t))) r.items
 cost_of_performed r t old new fits h =
     let one : new ≤ old + cost_of_transactions (t ∷ []) r.items = omega (arith, h) in
@@ -74,44 +61,23 @@ cost_at lent r given changes old new same as_given h =
 
 -- ---- a page that opens
 
-pub opening_within : (sites : ℕ) (opens : Result Opened Refusal) (page : Opened) (old new : ℕ) → opens ≡ Ok page → new ≤ old + sites * most_steps page.items →
+pub opening_within : (sites : ℕ) (opens : Result Opened Refusal) (page : Opened) (old new : ℕ) → opens ≡ Ok page → new ≤ old + sites * cost_of_tree page.items →
     new ≤ old + cost_of_opening sites opens
 opening_within sites opens page old new is h =
-    subst (λ r. new ≤ old + cost_of_opening sites r) (sym is) (subst (λ n. new ≤ old + sites * n) (tree_is page.items) h)
+    subst (λ r. new ≤ old + cost_of_opening sites r) (sym is) h
 
 -- ---- entries taken back and made again
 
-pub undo_within : (committed : List Parcel) (m : Member) → steps_over (counted.undoing m.site.unsent) m.site.replica.items ≤ cost_of_request committed m request.Undo
-undo_within committed m = by m.site.unsent
-  where
-    by : (es : List Entry) → steps_over (counted.undoing es) m.site.replica.items
-        ≤ cost_of_made (nat_le 2 (length (cost.undoing es))) (cost.undoing es) m.site.replica.items
-    by [] = over_within [] m.site.replica.items
-    by (e ∷ es) = over_within (reversal (init_and_last e es).1.txs) m.site.replica.items
+pub undo_within : (committed : List Parcel) (m : Member) → steps_over (undoing m.site.unsent) m.site.replica.items ≤ cost_of_request committed m request.Undo
+undo_within committed m = over_within (undoing m.site.unsent) m.site.replica.items
 
-pub redo_within : (committed : List Parcel) (m : Member) → steps_over (counted.redoing m.site.undone) m.site.replica.items ≤ cost_of_request committed m request.Redo
-redo_within committed m = by m.site.undone
-  where
-    by : (ps : List Parcel) → steps_over (counted.redoing ps) m.site.replica.items
-        ≤ cost_of_made (nat_le 2 (length (cost.redoing ps))) (cost.redoing ps) m.site.replica.items
-    by [] = over_within [] m.site.replica.items
-    by (p ∷ ps) = over_within p m.site.replica.items
-
-abbrev taken_back : Result (List Transaction) RangeConflict → List Transaction
-taken_back back = elim back [
-  | Err clash ↦ []
-  | Ok ts ↦ ts
-]
-
-is_back : (back : Result (List Transaction) RangeConflict) → taken_back back ≡ back_of back
-is_back (Err clash) = refl
-is_back (Ok ts) = refl
+pub redo_within : (committed : List Parcel) (m : Member) → steps_over (redoing m.site.undone) m.site.replica.items ≤ cost_of_request committed m request.Redo
+redo_within committed m = over_within (redoing m.site.undone) m.site.replica.items
 
 pub revoke_within : (committed : List Parcel) (m : Member) (i : ℕ) → nat_lt i m.site.seen ≡ true →
-    steps_over (turns.revoking committed i m.site) m.site.replica.items ≤ cost_of_request committed m (request.Revoke i)
+    steps_over (revoking committed i m.site) m.site.replica.items ≤ cost_of_request committed m (request.Revoke i)
 revoke_within committed m i seen =
     let s = m.site in
-    let made : cost.revoking committed i s ≡ turns.revoking committed i s =
-    ap (λ b. elim b as (λ _. List Transaction) [ false ↦ [] | true ↦ taken_back (revoke (entries_of committed s) i) ]) seen ∙ is_back (revoke (entries_of committed s) i) in
-    subst (λ ts. steps_over (turns.revoking committed i s) s.replica.items ≤ cost_of_made (nat_le 2 (length ts)) ts s.replica.items) (sym made)
-    (over_within (turns.revoking committed i s) s.replica.items)
+    let made : revoking_seen committed i s ≡ revoking committed i s = ap (λ b. if b then revoking committed i s else []) seen in
+    subst (λ ts. steps_over (revoking committed i s) s.replica.items ≤ cost_of_made (nat_le 2 (length ts)) ts s.replica.items) (sym made)
+    (over_within (revoking committed i s) s.replica.items)

@@ -18,7 +18,7 @@ use Rattle.model_world.specs.declared.refusal.Refusal.{Refusal}
 use Rattle.model_world.specs.Answers.{request_outcome, erased_or_no, higher, lower, performed_or_no, to_erase}
 use Rattle.model_world.specs.Edits.{checked_transaction, change_of}
 use Rattle.model_world.specs.Refusals.{refused_as}
-use Rattle.model_world_law.specs.Cost.{cost_of_made, cost_of_request, erasing}
+use Rattle.model_world.specs.Cost.{cost_of_made, cost_of_request, erasing}
 use Rattle.model_world_law.specs.Fit.{Fit, MovesFit}
 use Rattle.ve_changes.specs.declared.faults.ChangeStop.{ChangeStop}
 use Rattle.ve_changes.specs.Carets.{range_to_erase}

@@ -25,7 +25,7 @@ use Rattle.model_world.specs.Answers.{after_text}
 use Rattle.model_world.specs.Opening.{open_page, session_of}
 use Rattle.model_world.specs.Refusals.{open_refusal, refused_as}
 use Rattle.model_world.specs.World.{World, Open}
-use Rattle.model_world_law.specs.Cost.{cost_of_command, cost_of_opening, cost_of_request}
+use Rattle.model_world.specs.Cost.{cost_of_command, cost_of_opening, cost_of_request}
 use Rattle.model_world_law.specs.Fit.{LinesAreWritten}
 use Rattle.model_world_law.specs.Reached.{EveryItemStands, EverySiteHolds, SiteHolds}
 use Rattle.model_world_law.specs.Standing.{has_few_marks, may_stand}
@@ -39,7 +39,7 @@ use Rattle.ve_read.specs.RowsStand.{RowsStand}
 use Rattle.ve_json.specs.declared.answer.Answer.{Answer}
 use Rattle.ve_json.specs.declared.answer.Answer.TheVariants as answer
 use Rattle.ve_json.specs.Answers.{reply_of}
-use Rattle.ve_tree.specs.TreeOf.{most_steps}
+use Rattle.model_items.specs.Cost.{cost_of_tree}
 use Rattle.ve_tx.specs.Making.{Extends}
 use Rattle.ve_session.specs.Asked.{reply_and_world, IsAnswered, IsAsked}
 use Rattle.ve_session.specs.Opened.{lent_of, page_on, world_on, IsLed, IsOpen, MayOpen, OnPage}
@@ -87,7 +87,7 @@ module _ (text : List ℕ) (read : PageRead) (count : ℕ) (is : IsReadPage (enc
       subst (λ (x : Shared). let p = page_on (lent_of text read.body read.rows x.first refs) x.session in (open_page text ≡ Ok p.page) × (p.session ≡ session_of p.page count)) (sym e)
       (opens ∙ ap (λ p. Ok p) (sym (same_page refs)), ap (λ p. session_of p count) (sym (same_page refs)))
 
-  pub within : (old new : ℕ) → new ≤ old + count * most_steps page.items → new ≤ old + cost_of_opening count (open_page text)
+  pub within : (old new : ℕ) → new ≤ old + count * cost_of_tree page.items → new ≤ old + cost_of_opening count (open_page text)
   within old new h = opening_within count (open_page text) page old new opens h
 
 -- ---- a page that is open

@@ -6,7 +6,7 @@ use Rattle.model_script.specs.Lines.{lines_of, with_newlines}
 use Rattle.model_script.specs.Output.{output, replies, state_after, cost_of, written}
 use Rattle.model_world.specs.Spelled.{reply_text}
 use Rattle.model_world.specs.World.{World, Closed, output_of, reply}
-use Rattle.model_world_law.specs.Cost.{cost}
+use Rattle.model_world.specs.Cost.{cost}
 use Rattle.ve_gen.specs.Generated.{script_lines}
 use Rattle.ve_words.specs.Words.{Meant, Asks, Refused, HelpWanted}
 use Rattle.ve_words.specs.declared.read.Mode.TheVariants as mode

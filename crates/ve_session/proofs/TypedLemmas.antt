@@ -13,14 +13,14 @@ use Rattle.model_world.specs.declared.edit_command.TextMarks.TheVariants.{Left}
 use Rattle.model_world.specs.declared.command.Request.TheVariants as request
 use Rattle.model_world.specs.Answers.{lower, typed_or_no, typing}
 use Rattle.model_world.specs.Edits.{batch_on, change_of, change_on}
-use Rattle.model_world_law.specs.Cost.{cost_of_made, made_in_turn}
+use Rattle.model_world.specs.Cost.{cost_of_made, made_in_turn}
 use Rattle.ve_changes.proofs.BatchLemmas.{allowed_is, cost_of_lone, lone_batch, lone_refused, not_allowed, undrafted}
 use Rattle.ve_changes.proofs.TypingLemmas.{typing_caret}
 use Rattle.ve_changes.specs.declared.faults.ChangeStop.{ChangeStop}
 use Rattle.ve_changes.specs.declared.faults.ChangeStop.TheVariants as stop
 use Rattle.ve_changes.specs.Stops.{IsRefused, edit_stop}
 use Rattle.ve_changes.proofs.StopLemmas.{edit_stops}
-use Rattle.ve_editor.specs.Counted.{steps_after}
+use Rattle.model_change.specs.Cost.{cost_of_transactions}
 use Rattle.ve_editor.specs.Refusal.{IsEditRefusal}
 use Rattle.ve_session.specs.Asked.{asker, IsStopped}
 use Rattle.ve_session.proofs.TurnLemmas.{edit_was}
@@ -55,7 +55,7 @@ module _ (k : ℕ) (old : Shared) (text : List ℕ) (at : ℕ)
       IsStopped (request.TypeText text) k old (edit_stop fault)
   barred_typing t fault means e = stopped (edit_stop fault) (not_allowed r put t (edit_stop fault) means (edit_stops fault (edit_cause t r) t e))
 
-  pub typing_cost : (t : Transaction) (before after : ℕ) → change_of r.items put ≡ Ok t → edit_cause t r ≡ None → after ≤ before + steps_after (t ∷ []) r.items →
+  pub typing_cost : (t : Transaction) (before after : ℕ) → change_of r.items put ≡ Ok t → edit_cause t r ≡ None → after ≤ before + cost_of_transactions (t ∷ []) r.items →
       after ≤ before + cost_of_made true (made_in_turn r (typing r.selection text)) r.items
   typing_cost t before after means fits h =
       let own = cost_of_lone r put t before after (allowed_is r put t means fits) (omega (arith, h)) in

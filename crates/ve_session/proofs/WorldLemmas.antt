@@ -17,7 +17,7 @@ use Rattle.model_world.specs.Answers.{Outcome, request_outcome}
 use Rattle.model_world.specs.Commands.{command}
 use Rattle.model_world.specs.Opening.{open_page, session_of}
 use Rattle.model_world.specs.World.{World, Closed, Open, Answer as WorldAnswer, answered_if, asked_of, meaning, on_page, opened_or_no, reply, reply_and_next, world_after}
-use Rattle.model_world_law.specs.Cost.{cost_at, cost_of_command, cost_of_opening, cost_of_request}
+use Rattle.model_world.specs.Cost.{cost_at, cost_of_command, cost_of_opening, cost_of_request}
 use Rattle.ve_json.specs.declared.answer.Answer.{Answer}
 use Rattle.ve_json.specs.Answers.{reply_of}
 use Rattle.ve_session.specs.Asked.{asker, kept_or_new, reply_and_world, IsAnswered, IsAsked}

@@ -3,7 +3,7 @@ use Rattle.std.specs.Prelude.{ℕ, List, Option}
 use Rattle.model_script.specs.Output.{Meaning}
 use Rattle.model_world.specs.declared.reply.Reply.{Reply}
 use Rattle.model_world.specs.World.{World, Closed, meaning, output_of}
-use Rattle.model_world_law.specs.Cost.{cost}
+use Rattle.model_world.specs.Cost.{cost}
 use Rattle.ve_run.specs.declared.status.Status.{Status}
 use Rattle.ve_run.specs.Ended.{Moment, Ended}
 use Rattle.ve_run.specs.Run.{scene, Took, AppendsPrefix}

@@ -3,7 +3,7 @@ use Rattle.std.specs.Prelude.{Bool, true, false, ℕ, List}
 use Rattle.model_script.specs.Output.{Meaning}
 use Rattle.model_world.specs.declared.reply.Reply.{Reply}
 use Rattle.model_world.specs.World.{World, Closed, reply}
-use Rattle.model_world_law.specs.Cost.{cost}
+use Rattle.model_world.specs.Cost.{cost}
 
 -- After it ran out of memory a world is spent, and has no page.
 pub record State : Type 0 where

@@ -3,7 +3,8 @@ ghost use Rattle.std.specs.Prelude.{◌≡◌, ◌≢◌, ◌<◌, ◌≤◌, �
 ghost use Rattle.model_change.specs.Transaction.{InsertedApart};
 ghost use Rattle.model_world.specs.declared.command.Request.TheVariants as request;
 ghost use Rattle.model_world.specs.Edits.{checked_transaction};
-ghost use Rattle.model_world_law.specs.Cost.{cost_of_request, cost_of_transactions, made_of};
+ghost use Rattle.model_change.specs.Cost.{cost_of_transactions};
+ghost use Rattle.model_world.specs.Cost.{cost_of_request, made_of};
 ghost use Rattle.ve_changes.specs.Moves.{is_move};
 ghost use Rattle.ve_changes.specs.Stops.{IsRefused};
 ghost use Rattle.ve_editor.specs.Edited.{drafted, IsDraftOf};

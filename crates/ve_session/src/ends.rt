@@ -1,9 +1,9 @@
 // What is known of a site's list beside the one that was opened.
-ghost use Rattle.std.specs.Prelude.{◌≤◌, ◌<◌, IfSome, length};
+ghost use Rattle.std.specs.Prelude.{◌≡◌, ◌≤◌, ◌<◌, IfSome, length};
 ghost use Rattle.model_change.specs.Replay.{flattened};
 ghost use Rattle.model_site.specs.Site.{entries_of};
 ghost use Rattle.ve_origin.specs.Known.{AreAlike};
-ghost use Rattle.ve_site.specs.Ends.{LeaveEnds};
+ghost use Rattle.ve_site.specs.Ends.{LeaveEnds, least_ends, whole_list};
 ghost use Rattle.ve_sites.specs.Shared.{site_at, sites};
 ghost use Rattle.ve_session.specs.Ends.{AgreeAtEnds};
 
@@ -16,6 +16,10 @@ use ve_sites::Sites;
 /// seen or pending more than so many entries: they take longer to pass than the list to compare.
 pub fn ends_within(session: &Sites, k: usize, entries: usize) -> Option<Ends>
     requires site { k < sites session.now }
+    ensures least { IfSome result (λ e.
+        e
+        ≡ least_ends (whole_list (length session.now.first)) (
+        flattened (entries_of session.now.session.committed (site_at session.now k)))) }
     ensures within { IfSome result (λ e.
         (e.prefix ≤ length session.now.first) × (e.suffix ≤ length session.now.first)) }
     ensures left { IfSome result (λ e.

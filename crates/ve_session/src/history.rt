@@ -1,7 +1,7 @@
 // Undo and redo of a site.
 ghost use Rattle.std.specs.Prelude.{◌≡◌, ◌<◌, ◌≤◌, ◌+◌, IfErr, IfOk, OnErr};
 ghost use Rattle.model_world.specs.declared.command.Request.TheVariants as request;
-ghost use Rattle.model_world_law.specs.Cost.{cost_of_request};
+ghost use Rattle.model_world.specs.Cost.{cost_of_request};
 ghost use Rattle.ve_session.specs.Asked.{IsAnswered, IsStopped};
 ghost use Rattle.ve_session.specs.Turning.{MayTurn};
 ghost use Rattle.ve_sites.specs.Shared.{member_at, site_at, sites};

@@ -1,7 +1,7 @@
 //! A world: the page that is open with the sites that edit it, and the commands on it.
 //!
 //! Proved: a step answers as `model_world`'s machine and leads to the model's next world, and takes
-//! no more steps than the `Cost` of model_world_law says. After want of memory the world is spent:
+//! no more steps than the `Cost` of model_world says. After want of memory the world is spent:
 //! every later step says so. `run_program` makes a world and runs it.
 //!
 //! The reply to a line is `model_world`'s, and the world after it is the model's. A world holds the

@@ -3,7 +3,7 @@ ghost use Rattle.std.specs.Prelude.{◌≡◌, ◌≤◌, ◌<◌, ◌+◌, ◌+
 ghost use Rattle.model_world.specs.declared.command.Command.TheVariants.{Ask};
 ghost use Rattle.model_world.specs.declared.command.Request.TheVariants as request;
 ghost use Rattle.model_world.specs.Opening.{open_page, session_of};
-ghost use Rattle.model_world_law.specs.Cost.{cost_of_command, cost_of_opening};
+ghost use Rattle.model_world.specs.Cost.{cost_of_command, cost_of_opening};
 ghost use Rattle.ve_run.specs.Run.{reply_line};
 ghost use Rattle.ve_changes.specs.Stops.{IsRefused};
 ghost use Rattle.ve_read.specs.Pages.{HasPlaces, IsReadPage};

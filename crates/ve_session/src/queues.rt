@@ -2,7 +2,7 @@
 ghost use Rattle.std.specs.Prelude.{◌≡◌, ◌<◌, ◌≤◌, ◌+◌, IfErr, IfOk, OnErr, option_map};
 ghost use Rattle.model_world.specs.Answers.{ranges, taken_reply};
 ghost use Rattle.model_world.specs.declared.command.Request.TheVariants as request;
-ghost use Rattle.model_world_law.specs.Cost.{cost_of_request};
+ghost use Rattle.model_world.specs.Cost.{cost_of_request};
 ghost use Rattle.ve_json.specs.Answers.{reply_of};
 ghost use Rattle.ve_session.specs.Asked.{IsAnswered, IsStopped};
 ghost use Rattle.ve_session.specs.Turning.{MayTurn};

@@ -1,6 +1,6 @@
 // A request that may change a site or the queues.
 ghost use Rattle.std.specs.Prelude.{◌≡◌, ◌≢◌, ◌<◌, ◌≤◌, ◌+◌, false, IfErr, IfOk, OnErr, OnOk};
-ghost use Rattle.model_world_law.specs.Cost.{cost_of_request};
+ghost use Rattle.model_world.specs.Cost.{cost_of_request};
 ghost use Rattle.ve_json.specs.Answers.{AnswerCites};
 ghost use Rattle.ve_session.specs.Asked.{is_shown, IsAnswered, IsStopped};
 ghost use Rattle.ve_session.specs.Turning.{MayTurn};

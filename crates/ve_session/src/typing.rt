@@ -5,7 +5,7 @@ ghost use Rattle.model_world.specs.Edits.{change_of};
 ghost use Rattle.model_world.specs.declared.edit_command.EditCommand.TheVariants as change;
 ghost use Rattle.model_world.specs.declared.edit_command.TextMarks.TheVariants.{Left};
 ghost use Rattle.model_world.specs.declared.command.Request.TheVariants as request;
-ghost use Rattle.model_world_law.specs.Cost.{cost_of_request};
+ghost use Rattle.model_world.specs.Cost.{cost_of_request};
 ghost use Rattle.ve_changes.specs.Drafts.{IsDrafted};
 ghost use Rattle.ve_changes.specs.Stops.{IsRefused};
 ghost use Rattle.ve_editor.specs.Page.{IsPage};

@@ -3,7 +3,7 @@ ghost use Rattle.std.specs.Prelude.{◌≡◌, ◌≤◌, ◌+◌, ◌++◌, tru
 ghost use Rattle.model_world.specs.declared.command.Command.TheVariants.{Ask, OpenPage as OpensPage};
 ghost use Rattle.model_world.specs.declared.reply.Reply.TheVariants as reply;
 ghost use Rattle.model_world.specs.World.{reply as model_reply};
-ghost use Rattle.model_world_law.specs.Cost.{cost, cost_of_command};
+ghost use Rattle.model_world.specs.Cost.{cost, cost_of_command};
 ghost use Rattle.ve_run.specs.Run.{reply_line};
 ghost use Rattle.ve_session.specs.Asked.{reply_and_world, IsAsked};
 ghost use Rattle.ve_session.specs.Opened.{replica_in, HasUtf8Page, IsLed};

@@ -17,7 +17,7 @@ use Rattle.ve_tx.specs.ByValue.{ParcelCites}
 use Rattle.ve_tx.specs.Making.{Extends}
 use Rattle.ve_tx.proofs.ValuesLemmas.{extends_itself, extends_on}
 use Rattle.ve_tx.specs.Operation.{by_value}
-use Rattle.ve_editor.specs.Counted.{steps_after}
+use Rattle.model_change.specs.Cost.{cost_of_transactions}
 use Rattle.ve_editor.specs.Edited.{CanBeReverted, CutsUncited, entry_by_value, EntryCites, reversal_over}
 use Rattle.ve_editor.proofs.OtherLemmas.{all_by_value-extended}
 use Rattle.ve_history.specs.Stacks.{Stacks, without_last}
@@ -118,15 +118,15 @@ module _ (old now : Replica) (left gone : List Entry) (e : Entry) (d : AreDroppe
         over = last.before;
       }
 
-  pub one_counts : (start before after : ℕ) → before ≤ start + steps_after (back_over old.store gone) old.items →
-      after ≤ before + steps_after (reversal_over now.store e.txs) now.items → after ≤ start + steps_after (back_over old.store (e ∷ gone)) old.items
+  pub one_counts : (start before after : ℕ) → before ≤ start + cost_of_transactions (back_over old.store gone) old.items →
+      after ≤ before + cost_of_transactions (reversal_over now.store e.txs) now.items → after ≤ start + cost_of_transactions (back_over old.store (e ∷ gone)) old.items
   one_counts start before after h step =
       let later = flattened (parcels (map (entry_by_value old.store) gone)) in
-      let one : after ≤ before + steps_after (reversal_over old.store e.txs) now.items =
-      subst (λ (x : ModelEntry). after ≤ before + steps_after (reversal x.txs) now.items) same step in
+      let one : after ≤ before + cost_of_transactions (reversal_over old.store e.txs) now.items =
+      subst (λ (x : ModelEntry). after ≤ before + cost_of_transactions (reversal x.txs) now.items) same step in
       let list : now.items ≡ replay (reversal later) old.items = ap (λ (r : Replica). r.items) d.page ∙ items_back (map (entry_by_value old.store) gone) old in
-      let there = subst (λ items. after ≤ before + steps_after (reversal_over old.store e.txs) items) list one in
-      let both = ap (λ ts. steps_after ts old.items) (reversal-append (map (by_value old.store) e.txs) later) ∙ steps_of_both (reversal later) (reversal_over old.store e.txs) old.items in
+      let there = subst (λ items. after ≤ before + cost_of_transactions (reversal_over old.store e.txs) items) list one in
+      let both = ap (λ ts. cost_of_transactions ts old.items) (reversal-append (map (by_value old.store) e.txs) later) ∙ steps_of_both (reversal later) (reversal_over old.store e.txs) old.items in
       omega (arith, h, there, both)
 
 -- what is found at a position
@@ -157,27 +157,27 @@ module _ (old now : Replica) (all : List Entry) (at k : ℕ) (e : Entry) (droppe
   pub at_gone : (new : Replica) → new ≡ reverted (entry_by_value now.store e) now → AreDropped old (take k all) (drop k all) new
   at_gone new page = subst (λ l. AreDropped old (take k all) l new) (sym more) (one_gone old now (take k all) (drop (k + 1) all) e split new page)
 
-  pub at_counts : (start before after : ℕ) → before ≤ start + steps_after (back_over old.store (drop at all)) old.items →
-      after ≤ before + steps_after (reversal_over now.store e.txs) now.items → after ≤ start + steps_after (back_over old.store (drop k all)) old.items
+  pub at_counts : (start before after : ℕ) → before ≤ start + cost_of_transactions (back_over old.store (drop at all)) old.items →
+      after ≤ before + cost_of_transactions (reversal_over now.store e.txs) now.items → after ≤ start + cost_of_transactions (back_over old.store (drop k all)) old.items
   at_counts start before after h step =
-      subst (λ l. after ≤ start + steps_after (back_over old.store l) old.items) (sym more)
-      (one_counts old now (take k all) (drop (k + 1) all) e split start before after (subst (λ n. before ≤ start + steps_after (back_over old.store (drop n all)) old.items) next h) step)
+      subst (λ l. after ≤ start + cost_of_transactions (back_over old.store l) old.items) (sym more)
+      (one_counts old now (take k all) (drop (k + 1) all) e split start before after (subst (λ n. before ≤ start + cost_of_transactions (back_over old.store (drop n all)) old.items) next h) step)
 
 -- ---- counted
 
-one_fewer : (store : List Value) (e : Entry) (es : List Entry) (items : List PlainItem) → steps_after (back_over store es) items ≤ steps_after (back_over store (e ∷ es)) items
+one_fewer : (store : List Value) (e : Entry) (es : List Entry) (items : List PlainItem) → cost_of_transactions (back_over store es) items ≤ cost_of_transactions (back_over store (e ∷ es)) items
 one_fewer store e es items =
-    let all = ap (λ ts. steps_after ts items) (reversal-append (map (by_value store) e.txs) (flattened (parcels (map (entry_by_value store) es)))) in
+    let all = ap (λ ts. cost_of_transactions ts items) (reversal-append (map (by_value store) e.txs) (flattened (parcels (map (entry_by_value store) es)))) in
     let some = steps_of_first (back_over store es) (reversal (map (by_value store) e.txs)) items in
     omega (arith, all, some)
 
-after_some : (store : List Value) (es : List Entry) (n : ℕ) (items : List PlainItem) → steps_after (back_over store (drop n es)) items ≤ steps_after (back_over store es) items
+after_some : (store : List Value) (es : List Entry) (n : ℕ) (items : List PlainItem) → cost_of_transactions (back_over store (drop n es)) items ≤ cost_of_transactions (back_over store es) items
 after_some store es zero items = omega arith
 after_some store [] (suc n) items = omega arith
 after_some store (e ∷ es) (suc n) items = let h = after_some store es n items in let one = one_fewer store e es items in omega (arith, h, one)
 
 pub gone_within : (store : List Value) (es : List Entry) (m n : ℕ) (items : List PlainItem) → m ≤ n →
-    steps_after (back_over store (drop n es)) items ≤ steps_after (back_over store (drop m es)) items
+    cost_of_transactions (back_over store (drop n es)) items ≤ cost_of_transactions (back_over store (drop m es)) items
 gone_within store es zero n items le = after_some store es n items
 gone_within store es (suc m) zero items le = absurd (omega (arith, le))
 gone_within store [] (suc m) (suc n) items le = omega arith
@@ -193,12 +193,12 @@ module _ (old middle : Replica) (left gone : List Entry) (committed : ModelParce
   list_then : middle.items ≡ replay (back_over old.store gone) old.items
   list_then = ap (λ (r : Replica). r.items) dropped.page ∙ items_back (map (entry_by_value old.store) gone) old
 
-  pub admit_counts : (start two three : ℕ) → two ≤ start + steps_after (back_over old.store gone) old.items → three ≤ two + steps_after committed middle.items →
-      three ≤ start + steps_after (back_over old.store gone ++ committed) old.items
+  pub admit_counts : (start two three : ℕ) → two ≤ start + cost_of_transactions (back_over old.store gone) old.items → three ≤ two + cost_of_transactions committed middle.items →
+      three ≤ start + cost_of_transactions (back_over old.store gone ++ committed) old.items
   admit_counts start two three h k =
       let both = steps_of_both (back_over old.store gone) committed old.items in
-      let there = subst (λ items. three ≤ two + steps_after committed items) list_then k in
+      let there = subst (λ items. three ≤ two + cost_of_transactions committed items) list_then k in
       omega (arith, h, both, there)
 
-pub back_counts : (back committed : List Transaction) (items : List PlainItem) (start two : ℕ) → two ≤ start + steps_after back items → two ≤ start + steps_after (back ++ committed) items
+pub back_counts : (back committed : List Transaction) (items : List PlainItem) (start two : ℕ) → two ≤ start + cost_of_transactions back items → two ≤ start + cost_of_transactions (back ++ committed) items
 back_counts back committed items start two h = let some = steps_of_first back committed items in omega (arith, h, some)

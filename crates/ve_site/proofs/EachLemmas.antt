@@ -8,7 +8,7 @@ use Rattle.model_site.specs.Replica.{Replica, all_performed}
 use Rattle.model_site_law.proofs.RevertLemmas.{items_performed}
 use Rattle.ve_tx.specs.declared.parcel.Parcel.{Parcel}
 use Rattle.ve_tx.specs.ByValue.{parcel_by_value}
-use Rattle.ve_editor.specs.Counted.{steps_after}
+use Rattle.model_change.specs.Cost.{cost_of_transactions}
 use Rattle.ve_editor.specs.Edited.{AllStand}
 use Rattle.ve_site.proofs.MakingLemmas.{all_performed-append, steps_of_both}
 
@@ -26,7 +26,7 @@ pub record ArePerformed (old : Replica) (parcels : List Parcel) (i : ℕ) (now :
   pub page : all_performed (from_on i parcels) now ≡ all_performed (from_on 0 parcels) old
   pub stand : AllStand (from_on i parcels) now.items
   pub counted : before ≤ after
-  pub spent : after + steps_after (from_on i parcels) now.items ≤ before + steps_after (from_on 0 parcels) old.items
+  pub spent : after + cost_of_transactions (from_on i parcels) now.items ≤ before + cost_of_transactions (from_on 0 parcels) old.items
 
 pub none_performed : (old : Replica) (parcels : List Parcel) (before : ℕ) → AllStand (from_on 0 parcels) old.items → ArePerformed old parcels 0 old before before
 none_performed old parcels before stand = record { page = refl; stand = stand; counted = omega arith; spent = omega arith }
@@ -43,14 +43,14 @@ module _ (old : Replica) (parcels : List Parcel) (i : ℕ) (now : Replica) (befo
   pub next_stands : AllStand (parcel_by_value one) now.items
   next_stands = both_stand.0
 
-  both_count : steps_after (from_on i parcels) now.items
-      ≡ steps_after (parcel_by_value one) now.items + steps_after (from_on (i + 1) parcels) (replay (parcel_by_value one) now.items)
-  both_count = ap (λ ts. steps_after ts now.items) split ∙ steps_of_both (parcel_by_value one) (from_on (i + 1) parcels) now.items
+  both_count : cost_of_transactions (from_on i parcels) now.items
+      ≡ cost_of_transactions (parcel_by_value one) now.items + cost_of_transactions (from_on (i + 1) parcels) (replay (parcel_by_value one) now.items)
+  both_count = ap (λ ts. cost_of_transactions ts now.items) split ∙ steps_of_both (parcel_by_value one) (from_on (i + 1) parcels) now.items
 
-  pub next_within : (later : ℕ) → later ≤ after + steps_after (parcel_by_value one) now.items → later ≤ before + steps_after (from_on 0 parcels) old.items
+  pub next_within : (later : ℕ) → later ≤ after + cost_of_transactions (parcel_by_value one) now.items → later ≤ before + cost_of_transactions (from_on 0 parcels) old.items
   next_within later h = let b = both_count in let s = are.spent in omega (arith, h, b, s)
 
-  pub next_performed : (new : Replica) (later : ℕ) → new ≡ all_performed (parcel_by_value one) now → after ≤ later → later ≤ after + steps_after (parcel_by_value one) now.items →
+  pub next_performed : (new : Replica) (later : ℕ) → new ≡ all_performed (parcel_by_value one) now → after ≤ later → later ≤ after + cost_of_transactions (parcel_by_value one) now.items →
       ArePerformed old parcels (i + 1) new before later
   next_performed new later page counted spent =
       let list : new.items ≡ replay (parcel_by_value one) now.items = ap (λ (r : Replica). r.items) page ∙ items_performed (parcel_by_value one) now in
@@ -62,7 +62,7 @@ module _ (old : Replica) (parcels : List Parcel) (i : ℕ) (now : Replica) (befo
             ∙ (all_performed-append (parcel_by_value one) (from_on (i + 1) parcels) now ∙ (sym (ap (λ ts. all_performed ts now) split) ∙ are.page));
         stand = subst (AllStand (from_on (i + 1) parcels)) (sym list) both_stand.1;
         counted = omega (arith, c, counted);
-        spent = subst (λ items. later + steps_after (from_on (i + 1) parcels) items ≤ before + steps_after (from_on 0 parcels) old.items) (sym list) (omega (arith, b, s, spent));
+        spent = subst (λ items. later + cost_of_transactions (from_on (i + 1) parcels) items ≤ before + cost_of_transactions (from_on 0 parcels) old.items) (sym list) (omega (arith, b, s, spent));
       }
 
 pub all_are_performed : (old : Replica) (parcels : List Parcel) (i : ℕ) (now : Replica) (before after : ℕ) → ArePerformed old parcels i now before after → length parcels ≤ i →
@@ -71,5 +71,5 @@ all_are_performed old parcels i now before after are end =
     sym (ap (λ ps. all_performed (flattened (map parcel_by_value ps)) now) (drop_all i parcels end)) ∙ are.page
 
 pub performed_within : (old : Replica) (parcels : List Parcel) (i : ℕ) (now : Replica) (before after : ℕ) → ArePerformed old parcels i now before after →
-    after ≤ before + steps_after (from_on 0 parcels) old.items
+    after ≤ before + cost_of_transactions (from_on 0 parcels) old.items
 performed_within old parcels i now before after are = let s = are.spent in omega (arith, s)

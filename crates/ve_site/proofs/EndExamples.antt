@@ -1,10 +1,10 @@
 -- What transactions leave at the ends of a list.
-use Rattle.std.proofs.Common.{◌≤◌, ℕ, List, [], ◌∷◌, None, Some, codes, map, arith}
+use Rattle.std.proofs.Common.{◌≡◌, ◌≤◌, ℕ, List, [], ◌∷◌, None, Some, codes, map, refl, arith}
 use Rattle.std.proofs.lemmas.List.Elements.{All-nil, All-cons, All-head, All-tail}
 use Rattle.model_items.specs.declared.plain_item.PlainItem.{PlainItem}
 use Rattle.model_items.specs.declared.plain_item.PlainItem.TheVariants.{Char}
 use Rattle.model_change.specs.Transaction.{Retain, Replace, Attribute, Transaction}
-use Rattle.ve_site.specs.Ends.{LeaveEnds, LeavesEnds}
+use Rattle.ve_site.specs.Ends.{LeaveEnds, LeavesEnds, least_ends, whole_list}
 use Rattle.ve_site.specs.declared.ends.Ends.{Ends}
 
 abbrev letters : List ℕ → List PlainItem
@@ -30,6 +30,10 @@ two_and_one_stay =
     All-cons (LeavesEnds (ends 2 1)) comes (goes ∷ []) (first, behind_first)
     (All-cons (LeavesEnds (ends 2 1)) goes [] (second, behind_second) (All-nil (LeavesEnds (ends 2 1))))
 
+-- and these are the least of what each leaves: 2 and 3, 4 and 1
+the_least_of_two_and_four_and_of_three_and_one : least_ends (whole_list 5) (comes ∷ goes ∷ []) ≡ ends 2 1
+the_least_of_two_and_four_and_of_three_and_one = refl
+
 -- the first alone leaves def
 too_many_at_the_end : LeaveEnds (ends 2 2) (comes ∷ goes ∷ []) → ⊥
 too_many_at_the_end h =
@@ -53,12 +57,21 @@ three_stay_behind_it =
     let behind : 5 ≤ 5 = omega arith in
     All-cons (LeavesEnds (ends 1 3)) sets [] (before, behind) (All-nil (LeavesEnds (ends 1 3)))
 
+three_are_the_least : least_ends (whole_list 5) (sets ∷ []) ≡ ends 1 3
+three_are_the_least = refl
+
 four_do_not : LeaveEnds (ends 1 4) (sets ∷ []) → ⊥
 four_do_not h =
     let low : 6 ≤ 5 = (All-head (LeavesEnds (ends 1 4)) sets [] h).1 in
     absurd (omega arith)
 
--- one that changes nothing leaves all of a list at the beginning
+-- one that changes nothing leaves all of a list at the beginning, and nothing at the end
+idle_leaves_the_beginning : least_ends (whole_list 5) ((Retain 5 ∷ []) ∷ []) ≡ ends 5 0
+idle_leaves_the_beginning = refl
+
+no_change_leaves_all : least_ends (whole_list 5) [] ≡ whole_list 5
+no_change_leaves_all = refl
+
 idle_at_the_end : LeaveEnds (ends 5 1) ((Retain 5 ∷ []) ∷ []) → ⊥
 idle_at_the_end h =
     let low : 6 ≤ 5 = (All-head (LeavesEnds (ends 5 1)) (Retain 5 ∷ []) [] h).1 in

@@ -5,12 +5,12 @@ use Rattle.model_change.specs.Replay.{AllRun, flattened}
 use Rattle.model_site.specs.Entries.{Parcel as ModelParcel}
 use Rattle.model_site.specs.Site.{Site}
 use Rattle.model_site.specs.Take.{take_entry, take_foreign}
-use Rattle.ve_editor.specs.Counted.{steps_after}
+use Rattle.model_change.specs.Cost.{cost_of_transactions}
 use Rattle.ve_tx.specs.declared.parcel.Parcel.{Parcel}
 use Rattle.ve_tx.specs.ByValue.{parcel_by_value}
 use Rattle.ve_site.specs.declared.taking.Taking.{Taking}
 use Rattle.ve_site.specs.Ground.{Stands, ground_of}
-use Rattle.ve_site.specs.Taking.{taking_all, taking_one}
+use Rattle.model_site.specs.Made.{taking_all, taking_one}
 use Rattle.ve_site.specs.Underway.{HaveTaken, IsTaking, taking_site}
 use Rattle.ve_site.proofs.FrontSiteLemmas.{parted_by_value}
 use Rattle.ve_site.proofs.MakingLemmas.{may_take_both, steps_of_taking, taken-append}
@@ -20,10 +20,10 @@ pub taking_stands : (t : Taking) → IsTaking t → Stands (taking_site t)
 taking_stands t is = is.stands t.untold
 
 -- the first so many count no more than all
-pub first_within : (n : ℕ) (parcels : List Parcel) (s : Site) (before after : ℕ) → after ≤ before + steps_after (taking_all (map parcel_by_value (take n parcels)) s) s.replica.items →
-    after ≤ before + steps_after (taking_all (map parcel_by_value parcels) s) s.replica.items
+pub first_within : (n : ℕ) (parcels : List Parcel) (s : Site) (before after : ℕ) → after ≤ before + cost_of_transactions (taking_all (map parcel_by_value (take n parcels)) s) s.replica.items →
+    after ≤ before + cost_of_transactions (taking_all (map parcel_by_value parcels) s) s.replica.items
 first_within n parcels s before after h =
-    let both = ap (λ ps. steps_after (taking_all ps s) s.replica.items) (parted_by_value n parcels)
+    let both = ap (λ ps. cost_of_transactions (taking_all ps s) s.replica.items) (parted_by_value n parcels)
     ∙ steps_of_taking (map parcel_by_value (take n parcels)) (map parcel_by_value (drop n parcels)) s in
     omega (arith, h, both)
 
@@ -46,12 +46,12 @@ module _ (now : Taking) (parcels : List Parcel) (n : ℕ) (new : Taking) (is : I
   later_taken = ap (take_foreign later) taken.site ∙ (sym (taken-append first later (taking_site now)) ∙ ap (λ ps. take_foreign ps (taking_site now)) (sym (parted_by_value n parcels)))
 
   -- what they count together
-  both_count : steps_after (taking_all (map parcel_by_value parcels) (taking_site now)) now.editor.items
-      ≡ steps_after (taking_all first (taking_site now)) now.editor.items + steps_after (taking_all later (taking_site new)) new.editor.items
+  both_count : cost_of_transactions (taking_all (map parcel_by_value parcels) (taking_site now)) now.editor.items
+      ≡ cost_of_transactions (taking_all first (taking_site now)) now.editor.items + cost_of_transactions (taking_all later (taking_site new)) new.editor.items
   both_count =
-      ap (λ ps. steps_after (taking_all ps (taking_site now)) now.editor.items) (parted_by_value n parcels)
+      ap (λ ps. cost_of_transactions (taking_all ps (taking_site now)) now.editor.items) (parted_by_value n parcels)
       ∙ (steps_of_taking first later (taking_site now)
-      ∙ ap (λ (s : Site). steps_after (taking_all first (taking_site now)) now.editor.items + steps_after (taking_all later s) s.replica.items) (sym taken.site))
+      ∙ ap (λ (s : Site). cost_of_transactions (taking_all first (taking_site now)) now.editor.items + cost_of_transactions (taking_all later s) s.replica.items) (sym taken.site))
 
 -- ---- a front, and the entry after it
 
@@ -85,14 +85,14 @@ module _ (now : Taking) (parcels : List Parcel) (n : ℕ) (between : Taking) (is
     is = still;
   }
 
-  pub some_within : (start one two : ℕ) → one ≤ start + steps_after (taking_all (map parcel_by_value (take n parcels)) (taking_site now)) now.editor.items →
-      two ≤ one + steps_after (taking_one (parcel_by_value next) (taking_site between)) between.editor.items →
-      two ≤ start + steps_after (taking_all (map parcel_by_value (take (n + 1) parcels)) (taking_site now)) now.editor.items
+  pub some_within : (start one two : ℕ) → one ≤ start + cost_of_transactions (taking_all (map parcel_by_value (take n parcels)) (taking_site now)) now.editor.items →
+      two ≤ one + cost_of_transactions (taking_one (parcel_by_value next) (taking_site between)) between.editor.items →
+      two ≤ start + cost_of_transactions (taking_all (map parcel_by_value (take (n + 1) parcels)) (taking_site now)) now.editor.items
   some_within start one two h k =
       let first = map parcel_by_value (take n parcels) in
-      let both = ap (λ ps. steps_after (taking_all ps (taking_site now)) now.editor.items) with_next ∙ steps_of_taking first (parcel_by_value next ∷ []) (taking_site now) in
-      let last = ap (λ (s : Site). steps_after (taking_all (parcel_by_value next ∷ []) s) s.replica.items) (sym taken.site) in
-      let alone = ap (λ ts. steps_after ts between.editor.items) (append-nil (taking_one (parcel_by_value next) (taking_site between))) in
+      let both = ap (λ ps. cost_of_transactions (taking_all ps (taking_site now)) now.editor.items) with_next ∙ steps_of_taking first (parcel_by_value next ∷ []) (taking_site now) in
+      let last = ap (λ (s : Site). cost_of_transactions (taking_all (parcel_by_value next ∷ []) s) s.replica.items) (sym taken.site) in
+      let alone = ap (λ ts. cost_of_transactions ts between.editor.items) (append-nil (taking_one (parcel_by_value next) (taking_site between))) in
       omega (arith, h, k, both, last, alone)
 
 -- ---- until none is left
@@ -104,8 +104,8 @@ pub record IsAlong (old : Taking) (parcels : List Parcel) (at : ℕ) (now : Taki
   pub run : AllRun (flattened (map parcel_by_value (drop at parcels))) (ground_of (taking_site now))
   pub within : at ≤ length parcels
   pub counted : before ≤ after
-  pub spent : after + steps_after (taking_all (map parcel_by_value (drop at parcels)) (taking_site now)) now.editor.items
-      ≤ before + steps_after (taking_all (map parcel_by_value parcels) (taking_site old)) old.editor.items
+  pub spent : after + cost_of_transactions (taking_all (map parcel_by_value (drop at parcels)) (taking_site now)) now.editor.items
+      ≤ before + cost_of_transactions (taking_all (map parcel_by_value parcels) (taking_site old)) old.editor.items
 
 pub begun : (old : Taking) (parcels : List Parcel) (before : ℕ) → IsTaking old → AllRun (flattened (map parcel_by_value parcels)) (ground_of (taking_site old)) →
     IsAlong old parcels 0 old before before
@@ -120,21 +120,21 @@ module _ (old : Taking) (parcels : List Parcel) (at : ℕ) (now : Taking) (befor
   pub rest_run_on : AllRun (flattened (map parcel_by_value rest)) (ground_of (taking_site now))
   rest_run_on = subst (λ ps. AllRun (flattened (map parcel_by_value ps)) (ground_of (taking_site now))) (sym rest_is) along.run
 
-  spent_on : after + steps_after (taking_all (map parcel_by_value rest) (taking_site now)) now.editor.items
-      ≤ before + steps_after (taking_all (map parcel_by_value parcels) (taking_site old)) old.editor.items
+  spent_on : after + cost_of_transactions (taking_all (map parcel_by_value rest) (taking_site now)) now.editor.items
+      ≤ before + cost_of_transactions (taking_all (map parcel_by_value parcels) (taking_site old)) old.editor.items
   spent_on =
-      subst (λ ps. after + steps_after (taking_all (map parcel_by_value ps) (taking_site now)) now.editor.items
-      ≤ before + steps_after (taking_all (map parcel_by_value parcels) (taking_site old)) old.editor.items) (sym rest_is) along.spent
+      subst (λ ps. after + cost_of_transactions (taking_all (map parcel_by_value ps) (taking_site now)) now.editor.items
+      ≤ before + cost_of_transactions (taking_all (map parcel_by_value parcels) (taking_site old)) old.editor.items) (sym rest_is) along.spent
 
-  pub failed_within : (later : ℕ) → later ≤ after + steps_after (taking_all (map parcel_by_value rest) (taking_site now)) now.editor.items →
-      later ≤ before + steps_after (taking_all (map parcel_by_value parcels) (taking_site old)) old.editor.items
+  pub failed_within : (later : ℕ) → later ≤ after + cost_of_transactions (taking_all (map parcel_by_value rest) (taking_site now)) now.editor.items →
+      later ≤ before + cost_of_transactions (taking_all (map parcel_by_value parcels) (taking_site old)) old.editor.items
   failed_within later h = let s = spent_on in omega (arith, h, s)
 
   module _ (n : ℕ) (new : Taking) (taken : HaveTaken rest now n new) where
     dropped : map parcel_by_value (drop n rest) ≡ map parcel_by_value (drop (at + n) parcels)
     dropped = ap (λ ps. map parcel_by_value (drop n ps)) rest_is ∙ ap (map parcel_by_value) (drop-drop n at parcels)
 
-    pub one_run_further : (later : ℕ) → after ≤ later → later ≤ after + steps_after (taking_all (map parcel_by_value (take n rest)) (taking_site now)) now.editor.items →
+    pub one_run_further : (later : ℕ) → after ≤ later → later ≤ after + cost_of_transactions (taking_all (map parcel_by_value (take n rest)) (taking_site now)) now.editor.items →
         IsAlong old parcels (at + n) new before later
     one_run_further later counted spent =
         let both = both_count now rest n new along.is rest_run_on taken in
@@ -150,8 +150,8 @@ module _ (old : Taking) (parcels : List Parcel) (at : ℕ) (now : Taking) (befor
           within = omega (arith, taken.within, size, w);
           counted = omega (arith, c, counted);
           spent =
-              subst (λ ps. later + steps_after (taking_all ps (taking_site new)) new.editor.items
-              ≤ before + steps_after (taking_all (map parcel_by_value parcels) (taking_site old)) old.editor.items) dropped (omega (arith, both, s, spent));
+              subst (λ ps. later + cost_of_transactions (taking_all ps (taking_site new)) new.editor.items
+              ≤ before + cost_of_transactions (taking_all (map parcel_by_value parcels) (taking_site old)) old.editor.items) dropped (omega (arith, both, s, spent));
         }
 
 pub all_taken : (old : Taking) (parcels : List Parcel) (at : ℕ) (now : Taking) (before after : ℕ) → IsAlong old parcels at now before after → length parcels ≤ at →
@@ -161,5 +161,5 @@ all_taken old parcels at now before after along end =
     sym (ap (λ ps. take_foreign ps (taking_site now)) none) ∙ along.site
 
 pub all_within : (old : Taking) (parcels : List Parcel) (at : ℕ) (now : Taking) (before after : ℕ) → IsAlong old parcels at now before after →
-    after ≤ before + steps_after (taking_all (map parcel_by_value parcels) (taking_site old)) old.editor.items
+    after ≤ before + cost_of_transactions (taking_all (map parcel_by_value parcels) (taking_site old)) old.editor.items
 all_within old parcels at now before after along = let s = along.spent in omega (arith, s)

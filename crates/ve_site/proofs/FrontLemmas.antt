@@ -16,7 +16,7 @@ use Rattle.model_site_law.proofs.RevertLemmas.{items_performed}
 use Rattle.model_site_law.proofs.UntilConflictLemmas.{joined_until_conflict}
 use Rattle.ve_rebase.specs.Under.{AreAllJoined}
 use Rattle.ve_site.specs.Ground.{Stands, ground_of}
-use Rattle.ve_site.specs.Taking.{taking_all, taking_one}
+use Rattle.model_site.specs.Made.{taking_all, taking_one}
 use Rattle.ve_site.proofs.MakingLemmas.{all_performed-append}
 use Rattle.ve_site.proofs.PatchLemmas.{passed_both}
 use Rattle.ve_site.proofs.TakenLemmas.{committed_runs, has_taken, may_take_next}

@@ -22,7 +22,7 @@ use Rattle.ve_rebase.specs.Under.{AreAllJoined, AreAllUnder, all_over}
 use Rattle.ve_site.specs.Dropped.{numbered_alike}
 use Rattle.ve_site.specs.Ground.{Stands, ground_of}
 use Rattle.ve_site.specs.Numbered.{site_of, IsSite}
-use Rattle.ve_site.specs.Taking.{taking_all}
+use Rattle.model_site.specs.Made.{taking_all}
 use Rattle.ve_site.proofs.FrontLemmas.{front_is, front_makes, front_runs, with_pending}
 use Rattle.ve_site.proofs.MakingLemmas.{has_taken_all, may_take_both}
 use Rattle.ve_site.proofs.OverLemmas.{over_cites}

@@ -13,14 +13,16 @@ use Rattle.model_site.specs.Untold.{Untold, passed}
 use Rattle.ve_tx.specs.declared.entry.Entry.{Entry}
 use Rattle.ve_tx.specs.declared.parcel.Parcel.{Parcel}
 use Rattle.ve_tx.specs.ByValue.{parcel_by_value}
-use Rattle.ve_editor.specs.Counted.{steps_after, steps_over}
+use Rattle.model_change.specs.Cost.{cost_of_transactions}
+use Rattle.ve_editor.specs.Counted.{steps_over}
 use Rattle.ve_editor.specs.Edited.{AllStand, entry_by_value}
-use Rattle.ve_tree.specs.TreeOf.{most_steps}
+use Rattle.model_items.specs.Cost.{cost_of_tree}
 use Rattle.ve_site.specs.declared.taking.Taking.{Taking}
 use Rattle.ve_site.specs.Dropped.{IsAdmitted, IsStack, back_over}
 use Rattle.ve_site.specs.Ground.{ground_of}
 use Rattle.ve_site.specs.Numbered.{Numbered, with_site}
-use Rattle.ve_site.specs.Taking.{steps_of_feed, taking_all, taking_one}
+use Rattle.model_site.specs.Made.{taking_all, taking_one}
+use Rattle.ve_site.specs.Taking.{steps_of_feed}
 use Rattle.ve_site.specs.Underway.{AreTakenInPlace, IsTakenInPlace, MakesCopy, taking_site}
 use Rattle.ve_site.proofs.DropLemmas.{none_taken_back}
 use Rattle.ve_site.proofs.MakingLemmas.{making_anyway}
@@ -42,14 +44,14 @@ module _ (editor : Replica) (all : List Entry) (left : ℕ) (ts : ModelParcel) (
   pub noted_in_place : (old new : Untold) → new ≡ passed ts old → new ≡ passed (back_over editor.store (drop left all) ++ ts) old
   noted_in_place old new h = h ∙ ap (λ us. passed us old) (sym no_reversal)
 
-  pub counts_in_place : (before after : ℕ) → after ≤ before + steps_after ts editor.items → after ≤ before + steps_after (back_over editor.store (drop left all) ++ ts) editor.items
-  counts_in_place before after h = subst (λ us. after ≤ before + steps_after us editor.items) (sym no_reversal) h
+  pub counts_in_place : (before after : ℕ) → after ≤ before + cost_of_transactions ts editor.items → after ≤ before + cost_of_transactions (back_over editor.store (drop left all) ++ ts) editor.items
+  counts_in_place before after h = subst (λ us. after ≤ before + cost_of_transactions us editor.items) (sym no_reversal) h
 
 pub admitted_in_place : (old new : Replica) (all : List Entry) (left : ℕ) (ts : ModelParcel) → IsStack old all → left ≡ length all → new ≡ all_performed ts old → IsAdmitted old all left ts new
 admitted_in_place old new all left ts stack whole page = record { middle = old; dropped = none_taken_back old all left stack whole; page = page }
 
 -- one transaction at most is made without a copy
-pub one_in_place : (ts : List Transaction) (r : Replica) (before after : ℕ) → length ts ≤ 1 → after ≤ before + steps_over ts r.items → after ≤ before + steps_after ts r.items
+pub one_in_place : (ts : List Transaction) (r : Replica) (before after : ℕ) → length ts ≤ 1 → after ≤ before + steps_over ts r.items → after ≤ before + cost_of_transactions ts r.items
 one_in_place [] r before after one h = h
 one_in_place (t ∷ []) r before after one h = omega (arith, h)
 one_in_place (t ∷ u ∷ ts) r before after one h = absurd (omega (arith, one))
@@ -73,7 +75,7 @@ module _ (parcels : List Parcel) (one : Parcel) (n : length parcels ≡ 1) (is :
   one_taken old new (Some left) h = (h.0 ∙ ap (λ ps. with_site (take_foreign ps old.site) old) (sym alone), h.1)
   one_taken old new None h = (h.0, subst (λ ps. MakesCopy ps old.site) (sym alone) (one_makes_copy (parcel_by_value one) old.site h.1))
 
-  pub one_counts : (s : Site) (before after : ℕ) → after ≤ before + steps_after (taking_one (parcel_by_value one) s) s.replica.items →
+  pub one_counts : (s : Site) (before after : ℕ) → after ≤ before + cost_of_transactions (taking_one (parcel_by_value one) s) s.replica.items →
       after ≤ before + steps_of_feed (map parcel_by_value parcels) s
   one_counts s before after h = subst (λ ps. after ≤ before + steps_of_feed ps s) (sym alone) (omega (arith, h))
 
@@ -86,8 +88,8 @@ module _ (entries : List ModelParcel) (s : Site) (copy : Taking) (is : taking_si
   pub copy_takes : take_foreign entries (taking_site copy) ≡ take_foreign entries s
   copy_takes = ap (take_foreign entries) is ∙ taken_anyway entries s
 
-  pub copy_counts : (before between after : ℕ) → between ≤ before + most_steps s.replica.items → after ≤ between + steps_after (taking_all entries (taking_site copy)) copy.editor.items →
-      after ≤ before + (most_steps s.replica.items + steps_after (taking_all entries s) s.replica.items)
+  pub copy_counts : (before between after : ℕ) → between ≤ before + cost_of_tree s.replica.items → after ≤ between + cost_of_transactions (taking_all entries (taking_site copy)) copy.editor.items →
+      after ≤ before + (cost_of_tree s.replica.items + cost_of_transactions (taking_all entries s) s.replica.items)
   copy_counts before between after h k =
-      let same = ap (λ (t : Site). steps_after (taking_all entries t) t.replica.items) is ∙ ap (λ ts. steps_after ts s.replica.items) (sym (making_anyway entries s)) in
+      let same = ap (λ (t : Site). cost_of_transactions (taking_all entries t) t.replica.items) is ∙ ap (λ ts. cost_of_transactions ts s.replica.items) (sym (making_anyway entries s)) in
       omega (arith, h, k, same)

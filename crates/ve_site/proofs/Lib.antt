@@ -27,4 +27,5 @@ mod SiteExamples
 pub mod SettleLemmas
 mod PatchExamples
 pub mod EndLemmas
+pub mod LeastLemmas
 mod EndExamples

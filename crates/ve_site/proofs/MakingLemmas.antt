@@ -12,9 +12,9 @@ use Rattle.model_site.specs.Site.{Site, pending}
 use Rattle.model_site.specs.Take.{take_entry, take_foreign}
 use Rattle.model_site_law.proofs.ReplayLemmas.{AllRun-parts, flattened-append, replay-append}
 use Rattle.model_site_law.proofs.RevertLemmas.{items_performed, items_put_back}
-use Rattle.ve_editor.specs.Counted.{steps_after}
+use Rattle.model_change.specs.Cost.{cost_of_transactions}
 use Rattle.ve_site.specs.Ground.{Stands, ground_of}
-use Rattle.ve_site.specs.Taking.{taking_all, taking_one}
+use Rattle.model_site.specs.Made.{taking_all, taking_one}
 use Rattle.ve_site.proofs.NotedLemmas.{reversal-append}
 use Rattle.ve_site.proofs.TakenLemmas.{has_taken, may_take_next, restacked_stands, taken_anyway}
 
@@ -24,12 +24,12 @@ pub all_performed-append : (ts us : List Transaction) (r : Replica) → all_perf
 all_performed-append [] us r = refl
 all_performed-append (t ∷ ts) us r = all_performed-append ts us (performed t r)
 
-pub steps_of_both : (ts us : List Transaction) (items : List PlainItem) → steps_after (ts ++ us) items ≡ steps_after ts items + steps_after us (replay ts items)
+pub steps_of_both : (ts us : List Transaction) (items : List PlainItem) → cost_of_transactions (ts ++ us) items ≡ cost_of_transactions ts items + cost_of_transactions us (replay ts items)
 steps_of_both [] us items = omega arith
 steps_of_both (t ∷ ts) us items = let rest = steps_of_both ts us (edited t items) in omega (arith, rest)
 
 -- the first of them count no more
-pub steps_of_first : (ts us : List Transaction) (items : List PlainItem) → steps_after ts items ≤ steps_after (ts ++ us) items
+pub steps_of_first : (ts us : List Transaction) (items : List PlainItem) → cost_of_transactions ts items ≤ cost_of_transactions (ts ++ us) items
 steps_of_first ts us items = let both = steps_of_both ts us items in omega (arith, both)
 
 -- ---- the list that they give
@@ -74,13 +74,13 @@ taken-append (entry ∷ first) later s = taken-append first later (take_entry en
 
 -- what the first count, and then the later ones
 pub steps_of_taking : (first later : List Parcel) (s : Site) →
-    steps_after (taking_all (first ++ later) s) s.replica.items
-    ≡ steps_after (taking_all first s) s.replica.items + steps_after (taking_all later (take_foreign first s)) (take_foreign first s).replica.items
+    cost_of_transactions (taking_all (first ++ later) s) s.replica.items
+    ≡ cost_of_transactions (taking_all first s) s.replica.items + cost_of_transactions (taking_all later (take_foreign first s)) (take_foreign first s).replica.items
 steps_of_taking first later s =
     let next = take_foreign first s in
-    ap (λ ts. steps_after ts s.replica.items) (made-append first later s)
+    ap (λ ts. cost_of_transactions ts s.replica.items) (made-append first later s)
     ∙ (steps_of_both (taking_all first s) (taking_all later next) s.replica.items
-    ∙ ap (λ items. steps_after (taking_all first s) s.replica.items + steps_after (taking_all later next) items) (sym (all_replayed first s)))
+    ∙ ap (λ items. cost_of_transactions (taking_all first s) s.replica.items + cost_of_transactions (taking_all later next) items) (sym (all_replayed first s)))
 
 -- ---- the invariant of a site
 

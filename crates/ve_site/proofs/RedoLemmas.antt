@@ -1,6 +1,5 @@
 -- The last undone entry performed again.
-use Rattle.std.specs.Borrow.{Bor}
-use Rattle.std.proofs.Common.{◌≡◌, ◌≤◌, ◌+◌, ℕ, Bool, true, false, not, true≢false, List, [], ◌∷◌, ◌++◌, map, drop, slice_get, All, Option, Some, None, is_some, option_copied, Ok, Err, IsOk, is_ok, refl, sym, ap, ◌∙◌, subst}
+use Rattle.std.proofs.Common.{◌≡◌, ◌≤◌, ◌+◌, ℕ, List, [], ◌∷◌, ◌++◌, map, drop, slice_get, All, Option, Some, None, Ok, Err, IsOk, is_ok, refl, sym, ap, ◌∙◌, subst}
 use Rattle.std.proofs.lemmas.List.Elements.{All-head, All-tail}
 use Rattle.model_change.specs.Replay.{AllRun, flattened}
 use Rattle.model_site.specs.Causes.{NothingToRedo}
@@ -16,7 +15,7 @@ use Rattle.ve_tx.specs.Operation.{by_value}
 use Rattle.ve_editor.specs.Edited.{AllStand, entry_by_value, EntryCites}
 use Rattle.ve_editor.specs.Counted.{steps_over}
 use Rattle.ve_history.specs.Stacks.{Stacks}
-use Rattle.ve_site.specs.Counted.{redoing}
+use Rattle.model_site.specs.Made.{redoing}
 use Rattle.ve_site.specs.Numbered.{site_of, IsSite}
 use Rattle.ve_site.proofs.StandsLemmas.{all_stand, redone_stands}
 use Rattle.ve_site.proofs.StepLemmas.{pushed_same, pushed_is}
@@ -73,17 +72,12 @@ none_first (x ∷ xs) e = cc
 pub nothing_redone : (s : Site) (old : List Parcel) → s.undone ≡ map parcel_by_value old → slice_get old 0 ≡ None → redo s ≡ Err NothingToRedo
 nothing_redone s old u e = ap (λ ps. redo_first ps s) (u ∙ ap (map parcel_by_value) (none_first old e))
 
--- `top` is what the code looks at, and `none` what it answers
-pub none_lent : (old : List Parcel) (top : Option (Bor Parcel)) (none : Bool) → option_copied top ≡ slice_get old 0 → is_some top ≡ not none → none ≡ true → slice_get old 0 ≡ None
-none_lent old None none lent says is = sym lent
-none_lent old (Some p) none lent says is = absurd (true≢false (says ∙ ap not is))
-
 -- ---- something to perform again
 
-pub some_lent : (old : List Parcel) (top : Option (Bor Parcel)) (none : Bool) → option_copied top ≡ slice_get old 0 → is_some top ≡ not none → none ≡ false → slice_get old 0 ≡ None → ⊥
-some_lent old None none lent says is last = true≢false (sym (says ∙ ap not is))
-some_lent old (Some p) none lent says is last = let both : Some p.now ≡ None = lent ∙ last in cc
-
-pub redoes : (s : Site) (old : List Parcel) → s.undone ≡ map parcel_by_value old → (slice_get old 0 ≡ None → ⊥) → IsOk (redo s)
+pub redoes : (s : Site) (old : List Parcel) → s.undone ≡ map parcel_by_value old → (old ≡ [] → ⊥) → IsOk (redo s)
 redoes s [] u some = absurd (some refl)
 redoes s (p ∷ ps) u some = ap (λ us. is_ok (redo_first us s)) u
+
+pub first_is : (old : List Parcel) (first : Parcel) → slice_get old 0 ≡ Some first → old ≡ [] → ⊥
+first_is [] first is none = cc
+first_is (p ∷ ps) first is none = cc

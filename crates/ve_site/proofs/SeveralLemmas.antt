@@ -13,9 +13,10 @@ use Rattle.model_site.specs.Joined.{Joined, join_entries, joined_first}
 use Rattle.model_site.specs.Site.{Site, pending}
 use Rattle.model_site_law.proofs.ReplayLemmas.{parcels-drop}
 use Rattle.model_site_law.proofs.UntilConflictLemmas.{joined_until_conflict}
-use Rattle.ve_tree.specs.TreeOf.{most_steps}
-use Rattle.ve_editor.specs.Counted.{steps_after, steps_of_copy}
-use Rattle.ve_site.specs.Taking.{taking_one}
+use Rattle.model_items.specs.Cost.{cost_of_tree}
+use Rattle.model_change.specs.Cost.{cost_of_transactions}
+use Rattle.ve_editor.specs.Counted.{steps_of_copy}
+use Rattle.model_site.specs.Made.{taking_one}
 use Rattle.ve_site.specs.Underway.{MakesCopy}
 
 -- over no transaction nothing is in conflict
@@ -88,15 +89,15 @@ module _ (foreign : Parcel) (s : Site) where
 
 -- ---- what is made on a copy
 
-copied : (ts : List Transaction) (items : List PlainItem) → 2 ≤ length ts → steps_of_copy ts items ≡ most_steps items
+copied : (ts : List Transaction) (items : List PlainItem) → 2 ≤ length ts → steps_of_copy ts items ≡ cost_of_tree items
 copied [] items two = absurd (omega (arith, two))
 copied (t ∷ []) items two = absurd (omega (arith, two))
 copied (t ∷ u ∷ ts) items two = refl
 
 pub one_makes_copy : (foreign : Parcel) (s : Site) → 2 ≤ length (taking_one foreign s) → MakesCopy (foreign ∷ []) s
 one_makes_copy foreign s two =
-    ap (λ n. n + steps_after (taking_one foreign s) s.replica.items) (copied (taking_one foreign s) s.replica.items two)
-    ∙ ap (λ ts. most_steps s.replica.items + steps_after ts s.replica.items) (sym (append-nil (taking_one foreign s)))
+    ap (λ n. n + cost_of_transactions (taking_one foreign s) s.replica.items) (copied (taking_one foreign s) s.replica.items two)
+    ∙ ap (λ ts. cost_of_tree s.replica.items + cost_of_transactions ts s.replica.items) (sym (append-nil (taking_one foreign s)))
 
 pub several_make_copy : (entries : List Parcel) (s : Site) → 2 ≤ length entries → MakesCopy entries s
 several_make_copy [] s two = absurd (omega (arith, two))

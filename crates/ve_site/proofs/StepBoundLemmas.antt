@@ -22,10 +22,12 @@ use Rattle.model_site_law.specs.Sound.{Sound}
 use Rattle.model_site_law.proofs.ReplayLemmas.{AllRun-parts, flattened-append, parcels-drop, replay-append, sound_after}
 use Rattle.model_site_law.proofs.RevertLemmas.{items_all_reverted}
 use Rattle.model_site_law.proofs.UntilConflictLemmas.{joined_until_conflict}
-use Rattle.ve_tree.specs.TreeOf.{most_steps}
-use Rattle.ve_editor.specs.Counted.{steps_of, steps_after, steps_of_copy}
+use Rattle.model_items.specs.Cost.{cost_of_tree}
+use Rattle.model_change.specs.Cost.{cost_of_transaction, cost_of_transactions}
+use Rattle.ve_editor.specs.Counted.{steps_of_copy}
 use Rattle.ve_site.specs.Ground.{Stands, ground_of}
-use Rattle.ve_site.specs.Taking.{steps_of_feed, taking_all, taking_one}
+use Rattle.model_site.specs.Made.{taking_all, taking_one}
+use Rattle.ve_site.specs.Taking.{steps_of_feed}
 use Rattle.ve_site.specs.Laws.{TakeIsBounded, longest_of}
 use Rattle.ve_site.proofs.FrontLemmas.{pending_after}
 use Rattle.ve_site.proofs.MakingLemmas.{one_replayed, steps_of_both}
@@ -63,11 +65,11 @@ read_within (x ∷ items) = let rest = read_within items in let one = read_more 
 abbrev each : ℕ → ℕ
 each n = 8 * (n + 2)
 
-steps_within : (items : List PlainItem) (n : ℕ) → length items ≤ n → most_steps items ≤ each n
+steps_within : (items : List PlainItem) (n : ℕ) → length items ≤ n → cost_of_tree items ≤ each n
 steps_within items n small = let all = read_within items in omega (arith, all, small)
 
 -- and those of one transaction, where the list with all that it inserts isn't longer
-one_within : (t : Transaction) (items : List PlainItem) (n : ℕ) → Lawful items → Runs t items → length items + length (all_inserted t) ≤ n → steps_of t items ≤ each n
+one_within : (t : Transaction) (items : List PlainItem) (n : ℕ) → Lawful items → Runs t items → length items + length (all_inserted t) ≤ n → cost_of_transaction t items ≤ each n
 one_within t items n lawful run small = let few = touch_within t items lawful run.applies run.lawful in omega (arith, few, small)
 
 -- what a transaction leaves, with all that it removes, is as long as what it is given with all that
@@ -80,7 +82,7 @@ lengths_are_kept (Replace removed inserted ∷ ops) =
     omega (arith, rest, length-append removed (all_removed ops), length-append inserted (all_inserted ops))
 lengths_are_kept (Attribute change ∷ ops) = lengths_are_kept ops
 
-one_back_within : (t : Transaction) (items : List PlainItem) (n : ℕ) → Sound items → Runs t items → length items + length (all_inserted t) ≤ n → steps_of (inverse t) (edited t items) ≤ each n
+one_back_within : (t : Transaction) (items : List PlainItem) (n : ℕ) → Sound items → Runs t items → length items + length (all_inserted t) ≤ n → cost_of_transaction (inverse t) (edited t items) ≤ each n
 one_back_within t items n sound run small =
     let undone = reversal_undoes (t ∷ []) items sound.lawful sound.apart (run, tt) in
     let was = (parts_of_Applies t items run.applies).0 in
@@ -107,7 +109,7 @@ copy_within [] items n small = omega arith
 copy_within (t ∷ []) items n small = omega arith
 copy_within (t ∷ u ∷ ts) items n small = steps_within items n small
 
-made_within : (ts : List Transaction) (items : List PlainItem) (n : ℕ) → Lawful items → AllRun ts items → length items + inserted_by ts ≤ n → steps_after ts items ≤ length ts * each n
+made_within : (ts : List Transaction) (items : List PlainItem) (n : ℕ) → Lawful items → AllRun ts items → length items + inserted_by ts ≤ n → cost_of_transactions ts items ≤ length ts * each n
 made_within [] items n lawful run small = omega arith
 made_within (t ∷ ts) items n lawful run small =
     let next = replay_within (t ∷ []) items (run.0, tt) in
@@ -119,7 +121,7 @@ made_within (t ∷ ts) items n lawful run small =
 -- ---- transactions taken back
 
 back_within : (ts : List Transaction) (items : List PlainItem) (n : ℕ) → Sound items → AllRun ts items → length items + inserted_by ts ≤ n →
-    steps_after (reversal ts) (replay ts items) ≤ length ts * each n
+    cost_of_transactions (reversal ts) (replay ts items) ≤ length ts * each n
 back_within [] items n sound run small = omega arith
 back_within (t ∷ ts) items n sound run small =
     let new = edited t items in
@@ -128,8 +130,8 @@ back_within (t ∷ ts) items n sound run small =
     let parts = steps_of_both (reversal ts) (inverse t ∷ []) (replay ts new) in
     let sound_next = sound_after (t ∷ []) items sound (run.0, tt) in
     let there : replay (reversal ts) (replay ts new) ≡ new = (reversal_undoes ts new sound_next.lawful sound_next.apart run.1).back in
-    let last : steps_after (inverse t ∷ []) (replay (reversal ts) (replay ts new)) ≤ each n =
-    subst (λ l. steps_of (inverse t) l + 0 ≤ each n) (sym there) (let s = one_back_within t items n sound run.0 (omega (arith, small)) in omega (arith, s)) in
+    let last : cost_of_transactions (inverse t ∷ []) (replay (reversal ts) (replay ts new)) ≤ each n =
+    subst (λ l. cost_of_transaction (inverse t) l + 0 ≤ each n) (sym there) (let s = one_back_within t items n sound run.0 (omega (arith, small)) in omega (arith, s)) in
     let all = one_more (length ts) (each n) in
     omega (arith, rest, parts, last, all)
 
@@ -206,18 +208,18 @@ module _ (foreign : Parcel) (s : Site) (stands : Stands s) (run : AllRun foreign
   committed_run = subst (AllRun j.committed) left (committed_runs foreign s stands run)
 
   taken_within : (n : ℕ) → length floor + (inserted_by foreign + inserted_by (flattened own)) ≤ n →
-      steps_after (taking_one foreign s) s.replica.items ≤ (length gone + length foreign) * each n
+      cost_of_transactions (taking_one foreign s) s.replica.items ≤ (length gone + length foreign) * each n
   taken_within n small =
       let grown = replay_within (flattened kept) floor runs.0 in
       let all = inserts in
       let first = back_within gone stay n sound_there runs.1 (omega (arith, small, all, grown)) in
-      let first_here : steps_after (reversal gone) s.replica.items ≤ length gone * each n =
-      subst (λ l. steps_after (reversal gone) l ≤ length gone * each n) (sym there) first in
+      let first_here : cost_of_transactions (reversal gone) s.replica.items ≤ length gone * each n =
+      subst (λ l. cost_of_transactions (reversal gone) l ≤ length gone * each n) (sym there) first in
       let alike = inserted_alike j.committed foreign same_inserted.0 in
       let inserted_same = alike.0 in
       let second = made_within j.committed stay n sound_there.lawful committed_run (omega (arith, small, all, grown, inserted_same)) in
-      let second_here : steps_after j.committed (replay (reversal gone) s.replica.items) ≤ length foreign * each n =
-      subst (λ l. steps_after j.committed l ≤ length foreign * each n) (sym back) (subst (λ k. steps_after j.committed stay ≤ k * each n) alike.1 second) in
+      let second_here : cost_of_transactions j.committed (replay (reversal gone) s.replica.items) ≤ length foreign * each n =
+      subst (λ l. cost_of_transactions j.committed l ≤ length foreign * each n) (sym back) (subst (λ k. cost_of_transactions j.committed stay ≤ k * each n) alike.1 second) in
       let parts = steps_of_both (reversal gone) j.committed s.replica.items in
       let both = parts_of (length gone) (length foreign) (each n) in
       omega (arith, first_here, second_here, parts, both)
@@ -242,7 +244,7 @@ abbrev changes_of : List Parcel → Site → ℕ
 changes_of entries s = length (flattened entries) + length (flattened (parcels (pending s)))
 
 all_within : (entries : List Parcel) (s : Site) (n : ℕ) → Stands s → AllRun (flattened entries) (ground_of s) → longest_of entries s ≤ n →
-    steps_after (taking_all entries s) s.replica.items ≤ changes_of entries s * each n
+    cost_of_transactions (taking_all entries s) s.replica.items ≤ changes_of entries s * each n
 all_within [] s n stands run small = omega arith
 all_within (entry ∷ entries) s n stands run small =
     let may = may_take_next entry entries s stands run in
@@ -251,8 +253,8 @@ all_within (entry ∷ entries) s n stands run small =
     let first = taken_within entry s stands may.run n (omega (arith, small, inserted)) in
     let longer = longest_after entry s stands may.run entries in
     let rest = all_within entries next n (has_taken entry s stands may.run).stands may.others_run (omega (arith, small, longer)) in
-    let rest_here : steps_after (taking_all entries next) (replay (taking_one entry s) s.replica.items) ≤ changes_of entries next * each n =
-    subst (λ l. steps_after (taking_all entries next) l ≤ changes_of entries next * each n) (one_replayed entry s) rest in
+    let rest_here : cost_of_transactions (taking_all entries next) (replay (taking_one entry s) s.replica.items) ≤ changes_of entries next * each n =
+    subst (λ l. cost_of_transactions (taking_all entries next) l ≤ changes_of entries next * each n) (one_replayed entry s) rest in
     let parts = steps_of_both (taking_one entry s) (taking_all entries next) s.replica.items in
     let out = length (gone entry s stands may.run) in
     let stays = counts_after entry s stands may.run in
@@ -270,7 +272,7 @@ feed_within [] s n stands run small short = omega arith
 feed_within (entry ∷ []) s n stands run small short =
     let copy = copy_within (taking_one entry s) s.replica.items n short in
     let all = all_within (entry ∷ []) s n stands run small in
-    let made = subst (λ ts. steps_after ts s.replica.items ≤ changes_of (entry ∷ []) s * each n) (append-nil (taking_one entry s)) all in
+    let made = subst (λ ts. cost_of_transactions ts s.replica.items ≤ changes_of (entry ∷ []) s * each n) (append-nil (taking_one entry s)) all in
     omega (arith, copy, made)
 feed_within (entry ∷ other ∷ entries) s n stands run small short =
     let copy = steps_within s.replica.items n short in

@@ -1,5 +1,5 @@
 -- The meaning of a site's fields after each step, and that they are a site's again.
-use Rattle.std.proofs.Common.{◌≡◌, ℕ, true, false, List, [], ◌∷◌, ◌++◌, length, map, All, Option, None, Result, Ok, Err, is_err, OnOk, OnErr, refl, sym, ap, ◌∙◌, subst, arith}
+use Rattle.std.proofs.Common.{◌≡◌, ℕ, true, false, List, [], ◌∷◌, ◌++◌, length, map, All, Option, None, Result, Ok, Err, IsOk, is_err, OnOk, OnErr, refl, sym, ap, ◌∙◌, subst, arith}
 use Rattle.std.proofs.lemmas.List.{append_assoc, length-map, map-append}
 use Rattle.std.proofs.lemmas.List.Elements.{All-nil}
 use Rattle.ve_base.specs.declared.value.Value.{Value}
@@ -143,6 +143,11 @@ selected_is editor new seen sent h shared flight selection is p e =
 pub not_err : {A E : Type 0} (P : Type 0) (r : Result A E) → is_err r ≡ false → OnOk r P → P
 not_err P (Ok x) e h = h
 not_err P (Err x) e h = cc
+
+-- where a call fails, what it can't fail under doesn't hold
+pub fails_where : {A E : Type 0} (P : Type 0) (r : Result A E) → is_err r ≡ true → (P → IsOk r) → P → ⊥
+fails_where P (Ok x) e h p = cc
+fails_where P (Err x) e h p = let ok = h p in cc
 
 pub is_err_then : {A E : Type 0} (P : Type 0) (r : Result A E) → is_err r ≡ true → OnErr r P → P
 is_err_then P (Ok x) e h = cc

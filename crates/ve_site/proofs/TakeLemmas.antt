@@ -20,7 +20,7 @@ use Rattle.ve_tx.specs.ByValue.{parcel_by_value, ParcelCites}
 use Rattle.ve_tx.specs.Making.{Extends}
 use Rattle.ve_tx.specs.Operation.{by_value}
 use Rattle.ve_tx.proofs.ValuesLemmas.{extends_on}
-use Rattle.ve_editor.specs.Counted.{steps_after}
+use Rattle.model_change.specs.Cost.{cost_of_transactions}
 use Rattle.ve_editor.specs.Edited.{AllStand, entry_by_value, EntryCites}
 use Rattle.ve_history.specs.Stacks.{Stacks}
 use Rattle.ve_rebase.specs.declared.under.EntriesUnder.{EntriesUnder}
@@ -29,7 +29,7 @@ use Rattle.ve_rebase.specs.Under.{AreUnder, all_over, joined_under, over_values}
 use Rattle.ve_site.specs.Dropped.{IsAdmitted, IsStack, back_over, numbered_alike}
 use Rattle.ve_site.specs.Ground.{AreOver, Stands, ground_of}
 use Rattle.ve_site.specs.Numbered.{site_of, IsSite}
-use Rattle.ve_site.specs.Taking.{taking_one}
+use Rattle.model_site.specs.Made.{taking_one}
 use Rattle.ve_site.proofs.DropLemmas.{stack_is}
 use Rattle.ve_site.proofs.FrontLemmas.{with_pending}
 use Rattle.ve_site.proofs.OverLemmas.{over_cites}
@@ -249,9 +249,9 @@ module _ (editor : Replica) (untold : Untold) (seen : ℕ) (sent : List Entry) (
       ∙ (ap (λ n. back_over editor.store (drop n (sent ++ old.done)) ++ parcel_by_value made.committed) same_left
       ∙ makes_one editor untold seen sent old shared flight is foreign run made under)
 
-  pub lent_counts : (before after : ℕ) → after ≤ before + steps_after (back_over editor.store (drop (length left) (lent ++ behind)) ++ parcel_by_value made.committed) editor.items →
-      after ≤ before + steps_after (taking_one (parcel_by_value foreign) (site_of editor untold seen sent old shared flight)) editor.items
-  lent_counts before after h = subst (λ us. after ≤ before + steps_after us editor.items) lent_makes h
+  pub lent_counts : (before after : ℕ) → after ≤ before + cost_of_transactions (back_over editor.store (drop (length left) (lent ++ behind)) ++ parcel_by_value made.committed) editor.items →
+      after ≤ before + cost_of_transactions (taking_one (parcel_by_value foreign) (site_of editor untold seen sent old shared flight)) editor.items
+  lent_counts before after h = subst (λ us. after ≤ before + cost_of_transactions us editor.items) lent_makes h
 
   module _ (new : Replica) (lent_admitted : IsAdmitted editor (lent ++ behind) (length left) (parcel_by_value made.committed) new) (stored next : ℕ) (first : List Entry) (now : Stacks)
       (later : Untold) (is_stored : stored ≡ length new.store) (is_next : next ≡ seen + 1) (first_lent : first ≡ map (numbered_alike stored) (take (length lent) made.kept))

@@ -1,6 +1,5 @@
 -- The last unsent entry taken back.
 use Rattle.std.proofs.Common.{◌≡◌, ◌≤◌, ◌<◌, ◌+◌, ◌-◌, ℕ, suc, Bool, true, false, ◌&&◌, ◌==◌, nat_lt, if◌then◌else◌, List, [], ◌∷◌, ◌++◌, length, map, take, slice_get, All, Contains, Option, Some, None, Ok, Err, IsOk, is_ok, refl, sym, ap, ◌∙◌, subst, arith}
-use Rattle.std.proofs.lemmas.Bool.{eqb-true, eqb-false}
 use Rattle.std.proofs.lemmas.List.{map-append, append_assoc}
 use Rattle.std.proofs.lemmas.List.Elements.{All-cons, All-head}
 use Rattle.model_items.specs.declared.plain_item.PlainItem.{PlainItem}
@@ -30,7 +29,7 @@ use Rattle.ve_tx.proofs.ValuesLemmas.{extends_itself, extends_on}
 use Rattle.ve_editor.specs.Edited.{CanBeReverted, CutsUncited, entry_by_value, EntryCites}
 use Rattle.ve_editor.specs.Counted.{steps_over}
 use Rattle.ve_history.specs.Stacks.{Stacks, without_last}
-use Rattle.ve_site.specs.Counted.{undoing}
+use Rattle.model_site.specs.Made.{undoing}
 use Rattle.ve_site.specs.Ground.{AreOver, Stands, ground_of}
 use Rattle.ve_site.specs.Numbered.{site_of, IsSite}
 use Rattle.ve_site.specs.Refusal.{IsUndoRefusal}
@@ -185,15 +184,10 @@ none_left : {A : Type 0} (xs : List A) → slice_get xs (length xs - 1) ≡ None
 none_left [] e = refl
 none_left (x ∷ xs) e = let n : suc (length xs) - 1 ≡ length xs = omega arith in absurd (last_is_some x xs (subst (λ k. slice_get (x ∷ xs) k ≡ None) n e))
 
-no_items : {A : Type 0} (xs : List A) → length xs ≡ 0 → xs ≡ []
-no_items [] e = refl
-no_items (x ∷ xs) e = absurd (omega (arith, e))
-
--- `lent` are the entries that the code looks at
-pub nothing_undone : (s : Site) (old lent : List Entry) (why : UndoFault) → s.unsent ≡ map (entry_by_value s.replica.store) old → lent ≡ old → (length lent == 0) ≡ true →
+pub nothing_undone : (s : Site) (old : List Entry) (why : UndoFault) → s.unsent ≡ map (entry_by_value s.replica.store) old → slice_get old (length old - 1) ≡ None →
     why ≡ (if s.shared == 0 then fault.NothingToUndo else fault.AlreadyShared s.shared) → IsUndoRefusal (undo s) why
-nothing_undone s old lent why u same e w =
-    let none : s.unsent ≡ [] = u ∙ ap (map (entry_by_value s.replica.store)) (sym same ∙ no_items lent (eqb-true (length lent) 0 e)) in
+nothing_undone s old why u last w =
+    let none : s.unsent ≡ [] = u ∙ ap (map (entry_by_value s.replica.store)) (none_left old last) in
     let told = by_count (s.shared == 0) in
     subst (λ es. IsUndoRefusal (undo_last es s) why) (sym none) (subst (IsUndoRefusal (undo_last [] s)) (sym w) told)
   where
@@ -210,9 +204,10 @@ not_memory sent why w want = by_count (sent == 0) (sym w ∙ want)
 
 -- ---- something to take back
 
-pub last_is_lent : (old lent : List Entry) → lent ≡ old → (length lent == 0) ≡ false → slice_get old (length old - 1) ≡ None → ⊥
-last_is_lent old lent same some none = eqb-false (length lent) 0 some (ap length (same ∙ none_left old none))
+pub undoes : (s : Site) (old : List Entry) → s.unsent ≡ map (entry_by_value s.replica.store) old → (old ≡ [] → ⊥) → IsOk (undo s)
+undoes s [] u some = absurd (some refl)
+undoes s (e ∷ es) u some = ap (λ us. is_ok (undo_last us s)) u
 
-pub undoes : (s : Site) (old lent : List Entry) → s.unsent ≡ map (entry_by_value s.replica.store) old → lent ≡ old → (length lent == 0) ≡ false → IsOk (undo s)
-undoes s old [] u same some = absurd (eqb-false 0 0 some refl)
-undoes s old (e ∷ es) u same some = ap (λ us. is_ok (undo_last us s)) (u ∙ ap (map (entry_by_value s.replica.store)) (sym same))
+pub last_is : (old : List Entry) (last : Entry) → slice_get old (length old - 1) ≡ Some last → old ≡ [] → ⊥
+last_is [] last is none = cc
+last_is (e ∷ es) last is none = cc

@@ -15,7 +15,6 @@ pub use Rattle.ve_history.specs.Stacks
 pub use Rattle.ve_server.specs.Fed
 pub mod Ground
 pub mod Numbered
-pub mod Counted
 pub mod Settled
 pub mod Refusal
 pub mod Taking

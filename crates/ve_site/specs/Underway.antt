@@ -3,14 +3,15 @@ use Rattle.std.specs.Prelude.{◌≡◌, ◌≤◌, ℕ, ◌+◌, List, length, 
 use Rattle.model_site.specs.Entries.{Parcel as ModelParcel}
 use Rattle.model_site.specs.Site.{Site, pending}
 use Rattle.model_site.specs.Take.{take_entry, take_foreign}
-use Rattle.ve_editor.specs.Counted.{steps_after}
-use Rattle.ve_tree.specs.TreeOf.{most_steps}
+use Rattle.model_change.specs.Cost.{cost_of_transactions}
+use Rattle.model_items.specs.Cost.{cost_of_tree}
 use Rattle.ve_tx.specs.declared.parcel.Parcel.{Parcel}
 use Rattle.ve_tx.specs.ByValue.{parcel_by_value}
 use Rattle.ve_site.specs.declared.taking.Taking.{Taking}
 use Rattle.ve_site.specs.Dropped.{only_done}
 use Rattle.ve_site.specs.Numbered.{Numbered, site_of, with_site, IsSite}
-use Rattle.ve_site.specs.Taking.{steps_of_feed, taking_all, taking_one}
+use Rattle.model_site.specs.Made.{taking_all, taking_one}
+use Rattle.ve_site.specs.Taking.{steps_of_feed}
 
 -- what it would be as a site
 abbrev pub taking_site : Taking → Site
@@ -28,7 +29,7 @@ pub record HaveTaken (parcels : List Parcel) (old : Taking) (count : ℕ) (new :
 
 -- these entries are taken on a copy
 abbrev pub MakesCopy : List ModelParcel → Site → Type 0
-MakesCopy entries s = steps_of_feed entries s ≡ most_steps s.replica.items + steps_after (taking_all entries s) s.replica.items
+MakesCopy entries s = steps_of_feed entries s ≡ cost_of_tree s.replica.items + cost_of_transactions (taking_all entries s) s.replica.items
 
 -- An entry is taken in place, and so many are pending then. Or nothing changes: it makes two
 -- transactions at least.

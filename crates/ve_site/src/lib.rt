@@ -3,8 +3,8 @@
 //! `undo`, `redo`, `adopt`, `send`, `take`, `select` and `tell` make of a site what model_site
 //! says, or refuse it exactly where that does. `pending` gives its pending entries serialised, and
 //! `told` what changed in its list since `tell`, as patches. `ends` says how many items its pending
-//! entries leave as they were, at a list's beginning and at its end; `ends_under` says it of others
-//! (specs/Ends.antt).
+//! entries leave as they were, at a list's beginning and at its end: the least that one of their
+//! transactions leaves there. `ends_under` says it of others (specs/Ends.antt).
 //!
 //! Proved: but for want of memory, each call is the model's, or is refused as it is. Where a call
 //! fails nothing changes. An edit, an undo, a redo, an adoption and a take have bounds on their
@@ -13,8 +13,8 @@
 //! The view of a site is its number beside the model's site (specs/Numbered.antt), and the type
 //! keeps the invariant of one (specs/Ground.antt). So of the site these calls ask two things alone:
 //! what it takes has to run from its confirmed list (the ground), and what it adopts on its list.
-//! specs/Refusal.antt says how a refusal is told. specs/Counted.antt says what a call performs, by
-//! which its steps are bounded. specs/Taking.antt says both of a take, and specs/Settled.antt
+//! specs/Refusal.antt says how a refusal is told. The steps of a call are bounded by what it performs,
+//! which is `Made` of model_site; specs/Taking.antt says how many a take counts, and specs/Settled.antt
 //! defines the changed copy that a site takes. Three files serve private functions:
 //! specs/Dropped.antt (pending entries taken back), specs/Underway.antt (a copy while it takes
 //! entries) and specs/Patches.antt (what operations change).

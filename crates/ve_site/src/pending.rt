@@ -5,7 +5,7 @@ ghost use Rattle.model_site.specs.Entries.{all_reverted};
 ghost use Rattle.model_site.specs.Replica.{all_performed};
 ghost use Rattle.model_site.specs.Untold.{passed};
 ghost use Rattle.ve_tx.specs.ByValue.{parcel_by_value, ParcelCites};
-ghost use Rattle.ve_editor.specs.Counted.{steps_after};
+ghost use Rattle.model_change.specs.Cost.{cost_of_transactions};
 ghost use Rattle.ve_editor.specs.Edited.{AllStand, entry_by_value};
 ghost use Rattle.ve_site.specs.Dropped.{AreDropped, IsAdmitted, IsStack, back_over, numbered_alike};
 
@@ -36,7 +36,7 @@ fn take_back<L: Ledger>(
     ensures counted { steps.old ≤ steps.new }
     ensures steps { steps.new
         ≤ steps.old
-        + steps_after (back_over editor.old.store (drop left (sent.now ++ unsent.now)))
+        + cost_of_transactions (back_over editor.old.store (drop left (sent.now ++ unsent.now)))
         editor.old.items }
 {
     let mut at = count;
@@ -69,7 +69,7 @@ pub fn admit_under<L: Ledger>(
     ensures counted { steps.old ≤ steps.new }
     ensures steps { steps.new
         ≤ steps.old
-        + steps_after (
+        + cost_of_transactions (
         back_over editor.old.store (drop left (sent.now ++ unsent.now))
         ++ parcel_by_value committed.now) editor.old.items }
 {
@@ -95,7 +95,7 @@ pub fn admit_each<L: Ledger>(
     ensures counted { steps.old ≤ steps.new }
     ensures steps { steps.new
         ≤ steps.old
-        + steps_after (flattened (map parcel_by_value parcels.now)) editor.old.items }
+        + cost_of_transactions (flattened (map parcel_by_value parcels.now)) editor.old.items }
 {
     for parcel in parcels {
         editor.admit_in_place(parcel, steps)?;

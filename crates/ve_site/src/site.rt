@@ -68,8 +68,9 @@ impl Site {
     ghost use Rattle.ve_editor.specs.Page.{IsPage};
     ghost use Rattle.ve_editor.specs.Refusal.{IsEditRefusal};
     ghost use Rattle.ve_offsets.specs.Docs.{page_items};
-    ghost use Rattle.ve_editor.specs.Counted.{steps_after, steps_over};
-    ghost use Rattle.ve_site.specs.Counted.{undoing, redoing};
+    ghost use Rattle.model_change.specs.Cost.{cost_of_transactions};
+    ghost use Rattle.ve_editor.specs.Counted.{steps_over};
+    ghost use Rattle.model_site.specs.Made.{undoing, redoing};
     ghost use Rattle.ve_server.specs.Fed.{submission_of};
     ghost use Rattle.ve_tx.specs.ByValue.{parcel_by_value, ParcelCites};
     ghost use Rattle.ve_site.specs.Numbered.{with_site};
@@ -180,7 +181,7 @@ impl Site {
         ensures counted { steps.old ≤ steps.new }
         ensures steps { steps.new
             ≤ steps.old
-            + steps_after (drafted self.old.site.replica.store draft.now ∷ [])
+            + cost_of_transactions (drafted self.old.site.replica.store draft.now ∷ [])
             self.old.site.replica.items }
         ensures unstepped { IfErr result (λ why. why ≢ EditFault.Memory → steps.new ≡ steps.old) }
     {
@@ -227,14 +228,11 @@ impl Site {
         ensures steps { steps.new
             ≤ steps.old + steps_over (undoing self.old.site.unsent) self.old.site.replica.items }
     {
-        if self.history.done().is_empty() {
-            return Err(nothing_to_undo(self.shared));
-        }
-        if self.history.reserve().is_err() {
+        if self.history.reserve_undo().is_err() {
             return Err(UndoFault::Memory);
         }
         let Some(last) = self.history.undo_top() else {
-            unreachable!();
+            return Err(nothing_to_undo(self.shared));
         };
         let Ok(parcel) = Parcel::of(self.alloc, last, self.editor.doc().store) else {
             return Err(UndoFault::Memory);
@@ -261,14 +259,11 @@ impl Site {
         ensures steps { steps.new
             ≤ steps.old + steps_over (redoing self.old.site.undone) self.old.site.replica.items }
     {
-        if self.history.redo_top().is_none() {
-            return Err(RedoFault::NothingToRedo);
-        }
-        if self.history.reserve().is_err() {
+        if self.history.reserve_redo().is_err() {
             return Err(RedoFault::Memory);
         }
         let Some(undone) = self.history.redo_top() else {
-            unreachable!();
+            return Err(RedoFault::NothingToRedo);
         };
         let Ok(entry) = self.editor.admit(undone, steps) else {
             return Err(RedoFault::Memory);

@@ -4,13 +4,14 @@ ghost use Rattle.model_change.specs.Replay.{AllRun, flattened};
 ghost use Rattle.model_site.specs.Session.{site_after, taken_as};
 ghost use Rattle.model_site.specs.Site.{pending};
 ghost use Rattle.model_site.specs.Take.{take_ack, take_foreign};
-ghost use Rattle.ve_editor.specs.Counted.{steps_after};
+ghost use Rattle.model_change.specs.Cost.{cost_of_transactions};
 ghost use Rattle.ve_server.specs.Fed.{feed_of};
 ghost use Rattle.ve_site.specs.Ground.{ground_of};
 ghost use Rattle.ve_site.specs.Numbered.{with_site};
-ghost use Rattle.ve_site.specs.Taking.{MayTake, steps_of_feed, steps_of_take, taking_all, taking_one};
+ghost use Rattle.model_site.specs.Made.{taking_all, taking_one};
+ghost use Rattle.ve_site.specs.Taking.{MayTake, steps_of_feed, steps_of_take};
 ghost use Rattle.ve_site.specs.Underway.{AreTakenInPlace, IsTakenInPlace, IsTaking, taking_site};
-ghost use Rattle.ve_tree.specs.TreeOf.{most_steps};
+ghost use Rattle.model_items.specs.Cost.{cost_of_tree};
 ghost use Rattle.ve_tx.specs.ByValue.{parcel_by_value, ParcelCites};
 
 use crate::Site;
@@ -50,7 +51,7 @@ impl Site {
         ensures counted { steps.old ≤ steps.new }
         ensures steps { steps.new
             ≤ steps.old
-            + steps_after (taking_one (parcel_by_value foreign.now) self.old.site)
+            + cost_of_transactions (taking_one (parcel_by_value foreign.now) self.old.site)
             self.old.site.replica.items }
         ensures unstepped { IfOk result (λ taken. taken ≡ None → steps.new ≡ steps.old) }
     {
@@ -156,8 +157,8 @@ impl Site {
         ensures counted { steps.old ≤ steps.new }
         ensures steps { steps.new
             ≤ steps.old
-            + (most_steps self.old.site.replica.items
-            + steps_after (taking_all (map parcel_by_value parcels.now) self.old.site)
+            + (cost_of_tree self.old.site.replica.items
+            + cost_of_transactions (taking_all (map parcel_by_value parcels.now) self.old.site)
             self.old.site.replica.items) }
     {
         let mut taking = Taking::of(self, steps)?;

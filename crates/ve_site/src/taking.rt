@@ -3,11 +3,11 @@ ghost use Rattle.std.specs.Prelude.{◌≡◌, ◌≤◌, ◌<◌, ◌+◌, [], 
 ghost use Rattle.model_change.specs.Replay.{AllRun, flattened};
 ghost use Rattle.model_site.specs.Site.{pending};
 ghost use Rattle.model_site.specs.Take.{take_entry, take_foreign};
-ghost use Rattle.ve_tree.specs.TreeOf.{most_steps};
+ghost use Rattle.model_items.specs.Cost.{cost_of_tree};
 ghost use Rattle.ve_tx.specs.ByValue.{parcel_by_value, ParcelCites};
-ghost use Rattle.ve_editor.specs.Counted.{steps_after};
+ghost use Rattle.model_change.specs.Cost.{cost_of_transactions};
 ghost use Rattle.ve_site.specs.Ground.{ground_of};
-ghost use Rattle.ve_site.specs.Taking.{taking_all, taking_one};
+ghost use Rattle.model_site.specs.Made.{taking_all, taking_one};
 ghost use Rattle.ve_site.specs.Underway.{HaveTaken, IsTaking, taking_site};
 
 use crate::Site;
@@ -41,7 +41,7 @@ impl Taking {
             taking_site taking ≡ record site.now.site { undone = [] }) }
         ensures is { IfOk result IsTaking }
         ensures counted { steps.old ≤ steps.new }
-        ensures steps { steps.new ≤ steps.old + most_steps site.now.site.replica.items }
+        ensures steps { steps.new ≤ steps.old + cost_of_tree site.now.site.replica.items }
     {
         let sent = EntryList::copy_of(site.alloc, site.sent.as_slice())?;
         let unsent = EntryList::copy_of(site.alloc, site.history.done())?;
@@ -85,12 +85,12 @@ impl Taking {
         ensures steps { IfOk result (λ count.
             steps.new
             ≤ steps.old
-            + steps_after (
+            + cost_of_transactions (
             taking_all (map parcel_by_value (take count parcels.now)) (taking_site self.old))
             self.old.editor.items) }
         ensures within { steps.new
             ≤ steps.old
-            + steps_after (taking_all (map parcel_by_value parcels.now) (taking_site self.old))
+            + cost_of_transactions (taking_all (map parcel_by_value parcels.now) (taking_site self.old))
             self.old.editor.items }
     {
         let own_sent = self.sent.as_slice();
@@ -128,7 +128,7 @@ impl Taking {
         ensures counted { steps.old ≤ steps.new }
         ensures steps { steps.new
             ≤ steps.old
-            + steps_after (taking_one (parcel_by_value foreign.now) (taking_site self.old))
+            + cost_of_transactions (taking_one (parcel_by_value foreign.now) (taking_site self.old))
             self.old.editor.items }
     {
         let Some(seen) = self.seen.checked_add(1) else {
@@ -175,12 +175,12 @@ impl Taking {
         ensures steps { IfOk result (λ count.
             steps.new
             ≤ steps.old
-            + steps_after (
+            + cost_of_transactions (
             taking_all (map parcel_by_value (take count parcels.now)) (taking_site self.old))
             self.old.editor.items) }
         ensures within { steps.new
             ≤ steps.old
-            + steps_after (taking_all (map parcel_by_value parcels.now) (taking_site self.old))
+            + cost_of_transactions (taking_all (map parcel_by_value parcels.now) (taking_site self.old))
             self.old.editor.items }
     {
         let count = self.take_front(parcels, steps)?;
@@ -208,7 +208,7 @@ impl Taking {
         ensures counted { steps.old ≤ steps.new }
         ensures steps { steps.new
             ≤ steps.old
-            + steps_after (taking_all (map parcel_by_value parcels.now) (taking_site self.old))
+            + cost_of_transactions (taking_all (map parcel_by_value parcels.now) (taking_site self.old))
             self.old.editor.items }
     {
         let mut at = 0;

@@ -19,7 +19,7 @@ use Rattle.ve_rebase.specs.Lists.{RunFromOneLength}
 use Rattle.ve_server.specs.Serving.{Serving}
 use Rattle.ve_sites.specs.IsShared.{IsShared}
 use Rattle.ve_sites.specs.Senders.{Sender, session_of}
-use Rattle.ve_sites.specs.Turns.{back_of, revoking}
+use Rattle.model_site.specs.Made.{back_of, revoking}
 use Rattle.ve_sites.proofs.StayLemmas.{found, here}
 
 -- ---- the entries from one on

@@ -14,7 +14,8 @@ use Rattle.ve_server.specs.Serving.{Serving}
 use Rattle.ve_sites.specs.IsShared.{AreNumbered}
 use Rattle.ve_sites.specs.Senders.{HasGone, Sender, at_site, first_senders, members_of, session_of, shared_of}
 use Rattle.ve_sites.specs.Shared.{Shared, member_at, site_at, sites, with_member_at, with_site_at}
-use Rattle.ve_sites.specs.Turns.{HasSent, revoking, steps_of_turn}
+use Rattle.model_site.specs.Made.{revoking}
+use Rattle.ve_sites.specs.Turns.{HasSent, steps_of_turn}
 
 abbrev letters : List ℕ → List PlainItem
 letters = map (λ c. Char c [])

@@ -6,7 +6,7 @@ pub use Rattle.model_site_law.specs.Sound
 pub use Rattle.model_site_law.specs.SelectionLaws
 pub use Rattle.ve_editor.specs.Edited
 pub use Rattle.ve_peer_undo.specs.Refusal as RevokeRefusal
-pub use Rattle.ve_site.specs.Counted as SiteCounted
+pub use Rattle.model_site.specs.Made
 pub use Rattle.ve_site.specs.Refusal as SiteRefusal
 pub use Rattle.ve_site.specs.Taking
 pub use Rattle.ve_site.specs.Ends

@@ -1,11 +1,7 @@
 -- Turns of a session, and the transactions that they perform.
-use Rattle.std.specs.Prelude.{◌≡◌, ℕ, List, [], ◌∷◌, ◌++◌, length, Result, Ok, Err}
-use Rattle.model_change.specs.Join.{RangeConflict}
-use Rattle.model_change.specs.Replay.{revoke}
-use Rattle.model_change.specs.Transaction.{Transaction}
-use Rattle.model_site.specs.Entries.{Parcel}
+use Rattle.std.specs.Prelude.{◌≡◌, ℕ, List, [], ◌∷◌, ◌++◌, length, Ok}
 use Rattle.model_site.specs.Session.{Member, SiteFeed}
-use Rattle.model_site.specs.Site.{Site, Submission, entries_of, send}
+use Rattle.model_site.specs.Site.{Site, Submission, send}
 use Rattle.ve_site.specs.Taking.{steps_of_take}
 use Rattle.ve_sites.specs.Shared.{Shared, member_at, site_at, with_member_at}
 
@@ -31,11 +27,3 @@ steps_of_next (feed ∷ later) site = steps_of_take feed site
 -- a site's turn
 abbrev pub steps_of_turn : Member → ℕ
 steps_of_turn m = steps_of_next m.feeds m.site
-
-abbrev pub back_of : Result (List Transaction) RangeConflict → List Transaction
-back_of (Err clash) = []
-back_of (Ok back) = back
-
--- the transactions that take entry i of those that a site knows back; none, if that is in conflict
-abbrev pub revoking : (committed : List Parcel) → ℕ → Site → List Transaction
-revoking committed i site = back_of (revoke (entries_of committed site) i)

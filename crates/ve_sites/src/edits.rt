@@ -5,15 +5,15 @@ ghost use Rattle.model_change.specs.Transaction.{InsertedApart};
 ghost use Rattle.model_site.specs.Refused.{edit_cause};
 ghost use Rattle.model_site.specs.Site.{edit, entries_of, redo, revoke_entry, undo, with_selection, with_told};
 ghost use Rattle.model_site_law.specs.SelectionLaws.{StandsIn};
-ghost use Rattle.ve_editor.specs.Counted.{steps_after, steps_over};
+ghost use Rattle.model_change.specs.Cost.{cost_of_transactions};
+ghost use Rattle.ve_editor.specs.Counted.{steps_over};
 ghost use Rattle.ve_editor.specs.Edited.{IsDraftOf, drafted};
 ghost use Rattle.ve_editor.specs.Refusal.{IsEditRefusal};
 ghost use Rattle.ve_peer_undo.specs.Refusal.{IsRevokeRefusal};
-ghost use Rattle.ve_site.specs.Counted.{redoing, undoing};
+ghost use Rattle.model_site.specs.Made.{redoing, undoing, revoking};
 ghost use Rattle.ve_site.specs.Refusal.{IsRedoRefusal, IsUndoRefusal};
 ghost use Rattle.ve_site.specs.Settled.{with_new_entry, Settles};
 ghost use Rattle.ve_sites.specs.Shared.{site_at, sites, with_site_at};
-ghost use Rattle.ve_sites.specs.Turns.{revoking};
 
 use crate::Sites;
 use model_edit::Selection;
@@ -64,7 +64,7 @@ impl Sites {
         ensures counted { steps.old ≤ steps.new }
         ensures steps { steps.new
             ≤ steps.old
-            + steps_after (drafted (site_at self.old k).replica.store draft.now ∷ [])
+            + cost_of_transactions (drafted (site_at self.old k).replica.store draft.now ∷ [])
             (site_at self.old k).replica.items }
         ensures unstepped { IfErr result (λ why. why ≢ EditFault.Memory → steps.new ≡ steps.old) }
     {

@@ -11,8 +11,8 @@
 //! law, `turns_are_events` (`Laws`). The type keeps the invariant of a session (`IsShared`), whose
 //! fields `Senders` reads. So each call asks only for such a site, and for what that site asks.
 //!
-//! `ends` says how many items all transactions that a site knows leave as they were, at the list's
-//! beginning and at its end: those of the committed entries that it has seen, and its own.
+//! `ends` says exactly how many items all transactions that a site knows leave as they were, at the
+//! list's beginning and at its end: those of the committed entries that it has seen, and its own.
 //!
 //! It knows no page text and no script.
 //!

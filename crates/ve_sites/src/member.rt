@@ -6,11 +6,12 @@ ghost use Rattle.model_site.specs.Refused.{edit_cause};
 ghost use Rattle.model_site.specs.Session.{site_after, taken_as};
 ghost use Rattle.model_site.specs.Site.{edit, redo, send, undo, with_entry, with_selection, with_told};
 ghost use Rattle.model_site_law.specs.SelectionLaws.{StandsIn};
-ghost use Rattle.ve_editor.specs.Counted.{steps_after, steps_over};
+ghost use Rattle.model_change.specs.Cost.{cost_of_transactions};
+ghost use Rattle.ve_editor.specs.Counted.{steps_over};
 ghost use Rattle.ve_editor.specs.Edited.{IsDraftOf, drafted};
 ghost use Rattle.ve_editor.specs.Refusal.{IsEditRefusal};
 ghost use Rattle.ve_server.specs.Fed.{feed_of, submission_of};
-ghost use Rattle.ve_site.specs.Counted.{redoing, undoing};
+ghost use Rattle.model_site.specs.Made.{redoing, undoing};
 ghost use Rattle.ve_site.specs.Refusal.{IsRedoRefusal, IsSendRefusal, IsUndoRefusal};
 ghost use Rattle.ve_site.specs.Settled.{with_new_entry, Settles};
 ghost use Rattle.ve_site.specs.Taking.{MayTake, steps_of_take};
@@ -89,7 +90,7 @@ impl Member {
         ensures counted { steps.old ≤ steps.new }
         ensures steps { steps.new
             ≤ steps.old
-            + steps_after (drafted self.old.site.replica.store draft.now ∷ [])
+            + cost_of_transactions (drafted self.old.site.replica.store draft.now ∷ [])
             self.old.site.replica.items }
         ensures unstepped { IfErr result (λ why. why ≢ EditFault.Memory → steps.new ≡ steps.old) }
     {

@@ -8,8 +8,8 @@ ghost use Rattle.model_site.specs.Session.{started};
 ghost use Rattle.model_site.specs.Site.{entries_of, starting, told};
 ghost use Rattle.model_site_law.specs.Sound.{Sound};
 ghost use Rattle.ve_editor.specs.Page.{page_of};
-ghost use Rattle.ve_site.specs.Ends.{LeaveEnds};
-ghost use Rattle.ve_tree.specs.TreeOf.{most_steps};
+ghost use Rattle.ve_site.specs.Ends.{LeaveEnds, least_ends, whole_list};
+ghost use Rattle.model_items.specs.Cost.{cost_of_tree};
 ghost use Rattle.ve_sites.specs.Senders.{first_senders};
 ghost use Rattle.ve_sites.specs.Shared.{site_at, sites as sites_of};
 
@@ -66,7 +66,7 @@ fn begin<L: Ledger>(
           submissions = [];
         }) }
     ensures counted { steps.old ≤ steps.new }
-    ensures steps { steps.new ≤ steps.old + most_steps (plain_list values.now list.now.items) }
+    ensures steps { steps.new ≤ steps.old + cost_of_tree (plain_list values.now list.now.items) }
 {
     let list = list.copy(alloc)?;
     let values = values.copy(alloc)?;
@@ -89,7 +89,7 @@ fn all_begun<L: Ledger>(
         ≡ first_senders 0 sites (starting (page_of values.now list.now.items (between 0 0)))) }
     ensures counted { steps.old ≤ steps.new }
     ensures steps { steps.new
-        ≤ steps.old + sites * most_steps (plain_list values.now list.now.items) }
+        ≤ steps.old + sites * cost_of_tree (plain_list values.now list.now.items) }
 {
     let mut members = Vec::new(alloc);
     for number in 0..sites {
@@ -103,6 +103,8 @@ fn all_begun<L: Ledger>(
 /// its pending ones.
 fn ends_of(most: Ends, committed: &Parcels, site: &Site) -> Ends
     requires { site.now.site.seen ≤ length committed.now }
+    ensures least { result
+        ≡ least_ends most (flattened (entries_of committed.now site.now.site)) }
     ensures within { (result.prefix ≤ most.prefix) × (result.suffix ≤ most.suffix) }
     ensures left { LeaveEnds result (flattened (entries_of committed.now site.now.site)) }
 {
@@ -129,7 +131,7 @@ impl Sites {
               session = started (opened_with (plain_list values list.items)) sites;
             }) }
         ensures counted { steps.old ≤ steps.new }
-        ensures steps { steps.new ≤ steps.old + sites * most_steps (plain_list values list.items) }
+        ensures steps { steps.new ≤ steps.old + sites * cost_of_tree (plain_list values list.items) }
     {
         let server = Server::new(alloc, sites as usize)?;
         let members = all_begun(alloc, &list, &values, sites, steps)?;
@@ -176,10 +178,13 @@ impl Sites {
 
     /// How many items all transactions that site `k` knows leave as they were, at the list's
     /// beginning and at its end: those of the committed entries that it has seen, and of its
-    /// pending ones. They are at most as many as the list had when it was opened. It takes no
-    /// memory.
+    /// pending ones. They are the most that all of them leave, of as many as the list had when it
+    /// was opened. It takes no memory.
     pub fn ends(&self, k: usize) -> Ends
         requires site { k < sites_of self.now }
+        ensures least { result
+            ≡ least_ends (whole_list (length self.now.first)) (
+            flattened (entries_of self.now.session.committed (site_at self.now k))) }
         ensures within { (result.prefix ≤ length self.now.first)
             × (result.suffix ≤ length self.now.first) }
         ensures left { LeaveEnds result (

@@ -1,9 +1,8 @@
--- The input of a value's hash: a list of writes.
+-- The input of a value's hash: a list of writes. Of attributes it has the digest alone, which long ones keep.
 use Rattle.std.specs.Prelude.{ℕ, List, [], ◌++◌, Option, Some, None}
 use Rattle.std.specs.List.{flat_map}
-use Rattle.std.specs.Str.{encode_utf8_all}
 use Rattle.std.specs.Hash as fed
-use Rattle.ve_base.specs.declared.attrs.Attr.{Attr}
+use Rattle.ve_base.specs.Digest.{text_input, digest_of}
 use Rattle.ve_base.specs.declared.marks.Mark.{Mark}
 use Rattle.ve_base.specs.declared.head.Key.{Key}
 use Rattle.ve_base.specs.declared.head.Key.TheVariants.{Named, Auto}
@@ -12,17 +11,8 @@ use Rattle.ve_base.specs.declared.head.Head.{Head}
 use Rattle.ve_base.specs.declared.value.Value.{Value}
 use Rattle.ve_base.specs.declared.value.Value.TheVariants as value
 
-abbrev pub text_input : List ℕ → List (List ℕ)
-text_input text = fed.str (encode_utf8_all text)
-
-abbrev pub attr_input : Attr → List (List ℕ)
-attr_input attr = text_input attr.name ++ text_input attr.value
-
-abbrev pub attrs_input : List Attr → List (List ℕ)
-attrs_input attrs = flat_map attr_input attrs
-
 abbrev pub mark_input : Mark → List (List ℕ)
-mark_input mark = text_input mark.tag ++ attrs_input mark.attrs
+mark_input mark = text_input mark.tag ++ fed.u64 (digest_of mark.attrs)
 
 abbrev pub marks_input : List Mark → List (List ℕ)
 marks_input marks = flat_map mark_input marks
@@ -36,7 +26,7 @@ reference_input None = []
 reference_input (Some reference) = text_input reference.group ++ key_input reference.key
 
 abbrev pub head_input : Head → List (List ℕ)
-head_input head = text_input head.tag ++ attrs_input head.attrs ++ text_input head.raw ++ reference_input head.reference
+head_input head = text_input head.tag ++ fed.u64 (digest_of head.attrs) ++ text_input head.raw ++ reference_input head.reference
 
 abbrev pub value_input : Value → List (List ℕ)
 value_input (value.White text) = text_input text

@@ -1,10 +1,10 @@
 // A value as a key of a hash table.
 ghost use Rattle.std.specs.Prelude.{◌≡◌, fold};
-ghost use Rattle.ve_store.specs.HashInput.{text_input, attrs_input, marks_input, reference_input, head_input, value_input};
+ghost use Rattle.ve_store.specs.HashInput.{marks_input, reference_input, head_input, value_input};
 
 use std::hash::{Hash, Hasher};
 use std::marker::Model;
-use ve_base::{Attr, Head, Key, Mark, RefKey, Same, Text, Value};
+use ve_base::{Head, Key, Mark, RefKey, Same, Value};
 
 /// A value that is looked up by its hash. Two are equal exactly where their values are.
 #[derive(Drop)]
@@ -20,27 +20,12 @@ impl Model for Hashed {
     ghost view = { λ h. h.value };
 }
 
-fn hash_text<H: Hasher>(text: &Text, state: &mut H)
-    ensures { state.new ≡ fold H.write state.old (text_input text.now) }
-{
-    text.as_str().hash(state);
-}
-
-fn hash_attrs<H: Hasher>(attrs: &[Attr], state: &mut H)
-    ensures { state.new ≡ fold H.write state.old (attrs_input attrs.now) }
-{
-    for attr in attrs {
-        hash_text(&attr.name, state);
-        hash_text(&attr.value, state);
-    }
-}
-
 fn hash_marks<H: Hasher>(marks: &[Mark], state: &mut H)
     ensures { state.new ≡ fold H.write state.old (marks_input marks.now) }
 {
     for mark in marks {
-        hash_text(&mark.tag, state);
-        hash_attrs(mark.attrs.as_slice(), state);
+        mark.tag.feed(state);
+        state.write_u64(mark.attrs.digest());
     }
 }
 
@@ -48,9 +33,9 @@ fn hash_reference<H: Hasher>(reference: &Option<RefKey>, state: &mut H)
     ensures { state.new ≡ fold H.write state.old (reference_input reference.now) }
 {
     if let Some(reference) = reference {
-        hash_text(&reference.group, state);
+        reference.group.feed(state);
         match &reference.key {
-            Key::Named(name) => hash_text(name, state),
+            Key::Named(name) => name.feed(state),
             Key::Auto(number) => state.write_u32(*number),
         }
     }
@@ -59,9 +44,9 @@ fn hash_reference<H: Hasher>(reference: &Option<RefKey>, state: &mut H)
 fn hash_head<H: Hasher>(head: &Head, state: &mut H)
     ensures { state.new ≡ fold H.write state.old (head_input head.now) }
 {
-    hash_text(&head.tag, state);
-    hash_attrs(head.attrs.as_slice(), state);
-    hash_text(&head.raw, state);
+    head.tag.feed(state);
+    state.write_u64(head.attrs.digest());
+    head.raw.feed(state);
     hash_reference(&head.reference, state);
 }
 
@@ -93,7 +78,7 @@ impl Hash for Hashed {
 
     fn hash<H: Hasher>(&self, state: &mut H) {
         match &self.value {
-            Value::White(text) => hash_text(text, state),
+            Value::White(text) => text.feed(state),
             Value::Marks(marks) => hash_marks(marks.as_slice(), state),
             Value::Head(head) => hash_head(head, state),
         }

@@ -17,8 +17,8 @@
 //! That a value is found without a walk over the store is how it is written, and no clause says it.
 //!
 //! `admit` may grow a store past 2^20 values; `intern` is then full for a value that is new. A hash
-//! is taken of all texts in order, without their lengths. That affects speed alone, since equal
-//! hashes are compared by value.
+//! is taken of the texts in order, without their lengths, and of attributes by their digest, which a
+//! long list keeps. That affects speed alone, since equal hashes are compared by value.
 #![tactic(auto)]
 
 mod fault;

@@ -1,7 +1,6 @@
 -- Preconditions of each call on a tree.
-use Rattle.std.specs.Prelude.{◌≤◌, ◌+◌, ◌*◌, ℕ, List, length}
+use Rattle.std.specs.Prelude.{◌≤◌, ℕ, List, length}
 use Rattle.model_items.specs.declared.plain_item.PlainItem.{PlainItem}
-use Rattle.model_items.specs.Tree.{tree_of, node_count}
 use Rattle.ve_arena.specs.declared.node.NodeId.{NodeId}
 use Rattle.ve_tree.specs.declared.tree.Tree.{Tree}
 use Rattle.ve_tree.specs.IsTree.{IsTree}
@@ -23,7 +22,3 @@ pub record HasOffset (t : Tree) (o : ℕ) : Type 0 where
 pub record HasNode (t : Tree) (n : NodeId) : Type 0 where
   pub node : IsInTree t.arena t.root n
   pub landmarks : AreLandmarks t.arena t.root t.landmarks
-
--- how many steps the building of a list's tree takes at most: eight a node, and sixteen more
-abbrev pub most_steps : List PlainItem → ℕ
-most_steps items = 8 * (node_count (tree_of items) + 2)

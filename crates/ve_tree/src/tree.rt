@@ -7,7 +7,8 @@ ghost use Rattle.ve_tree.specs.Links.{number_of};
 ghost use Rattle.ve_tree.specs.IsTree.{IsTree, unvalued};
 ghost use Rattle.ve_tree.specs.Places.{sort_of, IsNodeRound, OfItsPlace, IsBranch};
 ghost use Rattle.ve_tree.specs.Spots.{IsSpotOf};
-ghost use Rattle.ve_tree.specs.TreeOf.{IsTreeOf, most_steps, HasOffset, HasNode};
+ghost use Rattle.model_items.specs.Cost.{cost_of_tree};
+ghost use Rattle.ve_tree.specs.TreeOf.{IsTreeOf, HasOffset, HasNode};
 ghost use Rattle.ve_tree.specs.Way.{IsSomeTree};
 
 use crate::build::read_children;
@@ -55,7 +56,7 @@ impl Tree {
         requires { Lawful (unvalued list.now.items) }
         ensures tree { IfOk result (λ tree. IsTreeOf tree (unvalued list.now.items)) }
         ensures counted { steps.old ≤ steps.new }
-        ensures steps { steps.new ≤ steps.old + most_steps (unvalued list.now.items) }
+        ensures steps { steps.new ≤ steps.old + cost_of_tree (unvalued list.now.items) }
     {
         let mut arena = Arena::new(alloc);
         let root = arena.make(NodeWhat::Node(Kind::Root), steps)?;

@@ -25,7 +25,8 @@ use Rattle.model_change.specs.declared.tx_fault.TxFault.TheVariants.{BadLength, 
 use Rattle.ve_tx.specs.declared.op.Op.{Op}
 use Rattle.ve_tx.specs.declared.op.Op.TheVariants as op
 use Rattle.ve_tx.specs.Checked.{change_of}
-use Rattle.ve_tx.specs.Filled.{items_past, op_filled, MayBeMade}
+use Rattle.ve_tx.specs.Filled.{is_attribute, items_past, op_filled, MayBeMade}
+use Rattle.std.specs.List.{list_any}
 use Rattle.ve_tx.specs.Making.{item_with_head, first_headed, standing, IsOpening}
 use Rattle.ve_tx.specs.Normal.{are_normal}
 use Rattle.ve_tx.specs.Cites.{OperationCites, TxCites}
@@ -209,3 +210,15 @@ normal_filled values tx made e h = normal-bare values made ∙ ap are_normal e �
 pub restorable_filled : (store : List Value) (tx made : List Operation) (items : List PlainItem) → by_value store made ≡ filled (by_value store tx) items → Applies (by_value store tx) items →
     IsRestorable (by_value store made) items
 restorable_filled store tx made items e h = subst (λ t. IsRestorable t items) (sym e) (filling_is_neutral (by_value store tx) items h).restorable
+
+-- operations without an attribute among them keep no position, and none is filled in
+pub filled_unkept : (store : List Value) (ops : List Op) (positions : List (Option ℕ)) (items : List PlainItem) → list_any is_attribute ops ≡ false →
+    by_value store (with_positions ops []) ≡ filled (by_value store (with_positions ops positions)) items
+filled_unkept store [] positions items h = refl
+filled_unkept store (op.Retain count ∷ ops) [] items h = ap (λ rest. model.Retain count ∷ rest) (filled_unkept store ops [] (drop count items) h)
+filled_unkept store (op.Retain count ∷ ops) (k ∷ positions) items h = ap (λ rest. model.Retain count ∷ rest) (filled_unkept store ops positions (drop count items) h)
+filled_unkept store (op.Replace removed inserted ∷ ops) [] items h =
+    ap (λ rest. model.Replace (plain_list store removed) (plain_list store inserted) ∷ rest) (filled_unkept store ops [] (drop (length (plain_list store removed)) items) h)
+filled_unkept store (op.Replace removed inserted ∷ ops) (k ∷ positions) items h =
+    ap (λ rest. model.Replace (plain_list store removed) (plain_list store inserted) ∷ rest) (filled_unkept store ops positions (drop (length (plain_list store removed)) items) h)
+filled_unkept store (op.Attribute name from to ∷ ops) positions items h = cc

@@ -1,4 +1,6 @@
 pub mod NormalLemmas
+pub mod NotedLemmas
+pub mod FirstNamesLemmas
 pub mod RangeLemmas
 pub mod TurnedLemmas
 pub mod EndsLemmas

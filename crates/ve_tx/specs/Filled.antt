@@ -1,5 +1,5 @@
 -- The positions of removed attributes, as one pass along the operations finds them.
-use Rattle.std.specs.Prelude.{◌≡◌, true, List, length, drop}
+use Rattle.std.specs.Prelude.{◌≡◌, Bool, true, false, List, length, drop}
 use Rattle.ve_base.specs.declared.value.Value.{Value}
 use Rattle.model_items.specs.declared.item.Item.{Item}
 use Rattle.model_items.specs.declared.plain_item.PlainItem.{PlainItem}
@@ -8,6 +8,8 @@ use Rattle.model_change.specs.Fault.{first_allows}
 use Rattle.model_change.specs.Inverse.{first_filled}
 use Rattle.model_change.specs.Transaction.{Op, Retain, Replace, Attribute, on_first}
 use Rattle.ve_tx.specs.declared.filled.Cursor.{Cursor}
+use Rattle.ve_tx.specs.declared.op.Op as kept
+use Rattle.ve_tx.specs.declared.op.Op.TheVariants as op
 use Rattle.ve_tx.specs.Making.{headed_from}
 use Rattle.ve_tx.specs.Operation.{Operation, operation_by_value}
 
@@ -48,3 +50,8 @@ Passes values items operation cursor next =
 abbrev pub Fills : List Value → List Item → Cursor → (operation full : Operation) → Type 0
 Fills values items cursor operation full =
     operation_by_value values full ≡ op_filled (operation_by_value values operation) (ahead values items cursor)
+
+abbrev pub is_attribute : kept.Op → Bool
+is_attribute (op.Retain count) = false
+is_attribute (op.Replace removed inserted) = false
+is_attribute (op.Attribute name from to) = true

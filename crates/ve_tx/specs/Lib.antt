@@ -14,6 +14,7 @@ pub mod Operation
 pub mod Applied
 pub mod Gathered
 pub mod Normal
+pub mod Noted
 pub mod Range
 pub mod Turned
 pub mod Entry

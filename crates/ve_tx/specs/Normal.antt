@@ -13,6 +13,20 @@ names_apart name (Retain count ∷ ops) = true
 names_apart name (Replace removed inserted ∷ ops) = false
 names_apart name (Attribute other from to ∷ ops) = not (text_same name other) && names_apart name ops
 
+-- the names of the attribute operations that come first
+abbrev pub first_names : List Op → List (List ℕ)
+first_names [] = []
+first_names (Retain count ∷ ops) = []
+first_names (Replace removed inserted ∷ ops) = []
+first_names (Attribute name from to ∷ ops) = name ∷ first_names ops
+
+-- they may follow an attribute operation, whatever its name
+abbrev pub may_follow_attribute : List Op → Bool
+may_follow_attribute [] = false
+may_follow_attribute (Retain count ∷ ops) = true
+may_follow_attribute (Replace removed inserted ∷ ops) = false
+may_follow_attribute (Attribute name from to ∷ ops) = true
+
 abbrev pub begins_with_retain : List Op → Bool
 begins_with_retain (Retain count ∷ ops) = true
 begins_with_retain _ = false

@@ -1,5 +1,6 @@
 // One attribute of an opening: whether it may be changed, and the head that then comes of it.
-ghost use Rattle.std.specs.Prelude.{◌≡◌, ◌≤◌, length, drop, false, None, Some, All, IfOk, IsSome, OnOk};
+ghost use Rattle.std.specs.Prelude.{◌≡◌, ◌≤◌, ◌↔◌, length, drop, false, None, Some, All, IfOk, IsSome, IsTrue, OnOk};
+ghost use Rattle.std.specs.Str.{chars};
 ghost use Rattle.model_items.specs.Plain.{plain, plain_list, head_in, value_at, CitesHead, CitesWell};
 ghost use Rattle.model_items.specs.Same.{text_same, option_same};
 ghost use Rattle.model_change.specs.Attributes as attributes;
@@ -14,11 +15,18 @@ use ve_items::{Item, Linear};
 use ve_kinds::is_element;
 use ve_store::Store;
 
-/// Names that say what a node is, and are not set like others.
-pub fn is_reserved(name: &Text) -> bool
-    ensures { result ≡ attributes.is_reserved name.now }
+/// Whether a name has the characters of a word.
+fn spells(name: &str, word: &str) -> bool
+    ensures { IsTrue result ↔ (chars name.now ≡ chars word.now) }
 {
-    name.is("about") || name.is("typeof")
+    name == word
+}
+
+/// Whether a name says what a node is, so that it is not set like others.
+pub fn is_reserved(name: &str) -> bool
+    ensures { result ≡ attributes.is_reserved (chars name.now) }
+{
+    spells(name, "about") || spells(name, "typeof")
 }
 
 /// The attributes of the head that an opening cites.
@@ -64,7 +72,9 @@ fn allows(store: &Store, item: Item, name: &Text, from: &Option<Text>) -> bool
 {
     match item {
         Item::Opening { kind, head, .. } => {
-            is_element(kind) && has_value(attrs_of(store, head), name, from) && !is_reserved(name)
+            is_element(kind)
+                && has_value(attrs_of(store, head), name, from)
+                && !is_reserved(name.as_str())
         }
         Item::Char { .. } | Item::Closing { .. } => false,
     }
@@ -169,7 +179,7 @@ pub fn changed(
     requires free { attributes.is_reserved name.now ≡ false }
     ensures { IfOk result (λ made. made ≡ attrs_changed name.now kept from.now to.now attrs) }
 {
-    let mut list = attrs.into_vec();
+    let mut list = attrs.into_vec(alloc)?;
     change(alloc, &mut list, name, kept, from, to)?;
     Ok(Attrs::from_vec(list))
 }

@@ -1,12 +1,13 @@
 // The positions of removed attributes.
-ghost use Rattle.std.specs.Prelude.{◌≡◌, ◌≤◌, ◌+◌, List, Some, None, drop, IfOk, All};
+ghost use Rattle.std.specs.Prelude.{◌≡◌, ◌≤◌, ◌+◌, List, [], Some, None, drop, IfOk, All};
+ghost use Rattle.std.specs.List.{list_any};
 ghost use Rattle.ve_base.specs.Limits.{max_total_length};
 ghost use Rattle.model_items.specs.declared.plain_item.PlainItem.{PlainItem};
 ghost use Rattle.model_items.specs.Plain.{plain_list, CitesWell};
 ghost use Rattle.model_change.specs.Attributes.{position_kept};
 ghost use Rattle.model_change.specs.Fault.{bad_attribute_at};
 ghost use Rattle.ve_tx.specs.Applied.{IsFilledOn};
-ghost use Rattle.ve_tx.specs.Filled.{MayPass, Passes, Fills};
+ghost use Rattle.ve_tx.specs.Filled.{is_attribute, MayPass, Passes, Fills};
 ghost use Rattle.ve_tx.specs.Making.{item_with_head, standing, IsOpening};
 ghost use Rattle.ve_tx.specs.Normal.{size, total_size};
 ghost use Rattle.ve_tx.specs.Gathered.{gathered};
@@ -104,9 +105,36 @@ fn step(
     }
 }
 
-/// Copies of the operations, each with its position or, where it removes an attribute, with the
-/// position that the attribute has just before.
-pub fn filled(
+fn is_attribute(op: &Op) -> bool
+    ensures { result ≡ is_attribute op.now }
+{
+    matches!(op, Op::Attribute { .. })
+}
+
+fn has_attribute(ops: &[Op]) -> bool
+    ensures { result ≡ list_any is_attribute ops.now }
+{
+    ops.iter().any(is_attribute)
+}
+
+/// Copies of operations that keep no position.
+fn unkept_copies(alloc: Global, ops: &[Op]) -> Result<Gathered, Memory>
+    ensures ops { IfOk result (λ made. made.ops.items ≡ ops.now) }
+    ensures kept { IfOk result (λ made. made.kept.items ≡ []) }
+{
+    let mut copies = Vec::with_capacity(alloc, ops.len())?;
+    for op in ops {
+        copies.push(op.copy(alloc)?)?;
+    }
+    Ok(Gathered {
+        ops: copies,
+        kept: Vec::new(alloc),
+    })
+}
+
+/// The copies where there is an attribute operation: in one pass, since each one's position hangs
+/// on those before it.
+fn filled_along(
     alloc: Global,
     ops: &[Op],
     kept: &[Option<usize>],
@@ -130,5 +158,31 @@ pub fn filled(
         made.push(op.copy(alloc)?, position)?;
         cursor = next;
     }
+    Ok(made)
+}
+
+/// Copies of the operations, each with its position or, where it removes an attribute, with the
+/// position that the attribute has just before.
+pub fn filled(
+    alloc: Global,
+    ops: &[Op],
+    kept: &[Option<usize>],
+    list: &Linear,
+    store: &Store,
+) -> Result<Gathered, Memory>
+    requires within { total_size ops.now ≤ max_total_length }
+    requires list { All (CitesWell store.now) list.now.items }
+    requires allowed { bad_attribute_at 0 (by_value store.now (with_positions ops.now kept.now))
+        (plain_list store.now list.now.items)
+        ≡ None }
+    ensures ops { IfOk result (λ made. made.ops.items ≡ ops.now) }
+    ensures filled { IfOk result (λ made.
+        IsFilledOn store.now list.now.items (with_positions ops.now kept.now) (gathered made)) }
+{
+    // no other operation keeps a position, so most changes are copied as they are
+    if has_attribute(ops) {
+        return filled_along(alloc, ops, kept, list, store);
+    }
+    let made = unkept_copies(alloc, ops)?;
     Ok(made)
 }

@@ -18,6 +18,8 @@
 //! - `Entry` is transactions that are undone together (specs/Entry.antt). `Parcel` is an entry over
 //!   its own values, to be sent (specs/Parcel.antt); `recite` is the way back into a store
 //!   (specs/Taken.antt). `Draft` is a transaction with values that no store has yet.
+//! - `Names` notes names, each once, so that many are told apart by few comparisons
+//!   (specs/Noted.antt).
 //!
 //! The laws are clauses of these calls: `undone` of `inverse`, `restorable` of `filled`, `applied`
 //! of `apply`. The tests stand in ve_tx_samples.
@@ -46,6 +48,7 @@ mod filled;
 mod gathered;
 mod inverse;
 mod making;
+mod names;
 mod normal;
 mod op;
 mod parcel;
@@ -60,6 +63,7 @@ pub use draft::Draft;
 pub use entry::{Entry, EntryList};
 pub use making::copy_range;
 pub use model_change::TxFault;
+pub use names::Names;
 pub use normal::same_text;
 pub use op::{Op, OpList};
 pub use parcel::{Parcel, ParcelList, ValueList};

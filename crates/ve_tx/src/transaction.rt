@@ -64,17 +64,18 @@ impl Transaction {
     ghost use Rattle.ve_tx.specs.Operation.{IsNormal};
 
     /// The transaction of these operations, without kept positions. It hands them back exactly
-    /// where they aren't in normal form. It takes no memory.
+    /// where they aren't in normal form. Where many attribute operations have one position, their
+    /// names are sorted if there is memory for it, and compared by pairs if there is none.
     pub fn from_ops(ops: OpList) -> Result<Transaction, OpList>
         ensures normal { (values : _) → is_ok result ≡ is_normal (by_value values (unkept ops)) }
         ensures ok { IfOk result (λ tx. tx ≡ unkept ops) }
         ensures err { IfErr result (λ back. back ≡ ops) }
     {
-        if !is_normal(ops.as_slice()) {
-            return Err(ops);
-        }
         let ops = ops.into_vec();
         let alloc = *ops.allocator();
+        if !is_normal(alloc, ops.as_slice()) {
+            return Err(OpList::from_vec(ops));
+        }
         Ok(Transaction {
             ops,
             kept: Vec::new(alloc),

@@ -17,6 +17,8 @@ pub mod OriginalLemmas
 pub mod EndLemmas
 pub mod BodyLemmas
 pub mod WholeLemmas
+pub mod CutLemmas
+pub mod RangeLemmas
 pub mod ReferringLemmas
 mod ReferringExamples
 mod FreshExamples

@@ -3,6 +3,7 @@ use Rattle.std.proofs.Common.{◌≡◌, ◌≢◌, ℕ, zero, suc, ◌+◌, ◌
 use Rattle.std.specs.Prelude.{find, nat_eq, option_map, option_and_then, encode_utf8_all, if◌then◌else◌}
 use Rattle.std.specs.List.{slice_get}
 use Rattle.std.specs.Option.{option_or}
+use Rattle.std.proofs.lemmas.Bool.{eq-eqb}
 use Rattle.std.proofs.lemmas.List.{length-map, take_all, take_more}
 use Rattle.std.proofs.lemmas.List.Folds.{find-append}
 use Rattle.std.proofs.lemmas.Option.{slice_get-get_or, slice_get_within, get_or_from_slice_get}
@@ -106,9 +107,31 @@ one_carried items rows i row at text old new rise found some is updates so p =
         ∙ other_row items (find (λ r. r.at == p) (take i rows))
         ∙ sym (ap (λ b. carried_in items (option_or (find (λ r. r.at == p) (take i rows)) (if b then Some row else None))) e)
 
+-- ---- one more row, at one position
+
+pub other_passed : (items : List PlainItem) (rows : List RefRow) (i : ℕ) (row : RefRow) (p : ℕ) → slice_get rows i ≡ Some row → (row.at == p) ≡ false →
+    text_by items (take (i + 1) rows) p ≡ text_by items (take i rows) p
+other_passed items rows i row p found other =
+    let before = find (λ r. r.at == p) (take i rows) in
+    by_more items rows i row p found
+    ∙ ap (λ b. carried_in items (option_or before (if b then Some row else None))) other
+    ∙ sym (other_row items before)
+
+pub none_passed : (items : List PlainItem) (rows : List RefRow) (i : ℕ) (row : RefRow) (p : ℕ) → slice_get rows i ≡ Some row → carried_outside (notes_place items) row ≡ None →
+    text_by items (take (i + 1) rows) p ≡ text_by items (take i rows) p
+none_passed items rows i row p found none = by_more items rows i row p found ∙ sym (nothing_more items row (row.at == p) (find (λ r. r.at == p) (take i rows)) none)
+
+pub row_here : (items : List PlainItem) (rows : List RefRow) (i : ℕ) (row : RefRow) (at : ℕ) → rows ≡ table items → slice_get rows i ≡ Some row → carried_outside (notes_place items) row ≡ Some at →
+    text_by items (take (i + 1) rows) row.at ≡ Some (text_at items at)
+row_here items rows i row at all found some =
+    by_more items rows i row row.at found
+    ∙ ap (λ b. carried_in items (option_or (find (λ r. r.at == row.at) (take i rows)) (if b then Some row else None))) (eq-eqb row.at row.at refl)
+    ∙ ap (λ o. carried_in items (option_or o (Some row))) (none_before rows i row (subst RowsRise (sym all) (table_rises items)) found)
+    ∙ ap (option_map (text_at items)) some
+
 -- ---- a row of the table by its number
 
-row_found : (rows : List RefRow) (i : ℕ) (row : RefRow) → i < length rows → row ≡ get_or rows i row → slice_get rows i ≡ Some row
+pub row_found : (rows : List RefRow) (i : ℕ) (row : RefRow) → i < length rows → row ≡ get_or rows i row → slice_get rows i ≡ Some row
 row_found rows i row less is = slice_get-get_or rows i row less ∙ ap Some (sym is)
 
 pub row_within : (values : List Value) (items : List Item) (rows : List RefRow) (i notes : ℕ) (row : RefRow) (at : ℕ) → rows ≡ table (plain_list values items) → i < length rows → row ≡ get_or rows i row →

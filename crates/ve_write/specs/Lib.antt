@@ -8,3 +8,4 @@ pub mod Originals
 pub mod Told
 pub mod Begun
 pub mod Referring
+pub mod Range

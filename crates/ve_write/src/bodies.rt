@@ -43,7 +43,7 @@ fn notes_in(items: &[Item]) -> usize
 
 /// Where the internal list opens, or the length of a list without one. It goes over borrowed
 /// pieces.
-fn notes_at(list: &Linear) -> usize
+pub fn notes_at(list: &Linear) -> usize
     ensures { (values : List Cited) → result ≡ notes_place (plain_list values list.now.items) }
 {
     let len = list.len();
@@ -61,7 +61,7 @@ fn notes_at(list: &Linear) -> usize
 
 /// Where the internal item opens whose body a reference carries. One that stands past the opening
 /// of the internal list is in it, and carries none.
-fn carried_at(row: &RefRow, notes: usize) -> Option<usize>
+pub fn carried_at(row: &RefRow, notes: usize) -> Option<usize>
     ensures { result ≡ carried_outside notes row.now }
 {
     if notes < row.at {
@@ -71,7 +71,7 @@ fn carried_at(row: &RefRow, notes: usize) -> Option<usize>
 }
 
 /// The text of the body whose internal item stands at a position.
-fn body_text(alloc: Global, list: &Linear, store: &Store, at: usize) -> Result<Text, Memory>
+pub fn body_text(alloc: Global, list: &Linear, store: &Store, at: usize) -> Result<Text, Memory>
     requires cites { AllCite store.now list.now.items }
     requires refers { all_refer (plain_list store.now list.now.items) ≡ true }
     requires within { at < length list.now.items }

@@ -12,6 +12,8 @@
 //!   no value of the store is a head with a key (`Referring`). A kept node ends after as many items
 //!   as it had, which its origin tells.
 //! - `write_fresh` appends the nodes of a list without origins: model_page_write's `fresh`.
+//!   `write_fresh_range` does so for a range of whole siblings (`AreSiblings`): its `fresh_range`.
+//!   The range is cut out, and written as a list by itself (`Range`).
 //! - `put_list`, `put_blocks` and `put_body` do the same for a writer that is told where bodies
 //!   stand (`Told`). One walk goes forward over the items, and calls itself for an element in an
 //!   element alone.
@@ -23,8 +25,9 @@
 //!   forward (`ending_at`).
 //!
 //! `BodyTexts`, `Begun`, `Passing` and `Referring` serve private functions. An `Err` is want of
-//! memory: `write`, `write_knowing` and `write_fresh` then leave the buffer as it was, the others may
-//! leave a part. There are no laws here: reading back is a law of model_page_law.
+//! memory: `write`, `write_knowing`, `write_fresh` and `write_fresh_range` then leave the buffer as
+//! it was, the others may leave a part. There are no laws here: reading back is a law of
+//! model_page_law.
 //!
 //! The caller tells where the node of each origin stood (`IsFirst`), so whether a node is kept is
 //! asked without a walk. An origin that the page hadn't keeps nothing. Bytes that were UTF-8 still
@@ -42,6 +45,7 @@ mod inline;
 mod kept;
 mod lists;
 mod page;
+mod range;
 mod references;
 mod run;
 mod tags;
@@ -54,3 +58,4 @@ pub use fresh::write_fresh;
 pub use inline::reads_inline;
 pub use lists::{put_body, put_list};
 pub use page::{write, write_knowing};
+pub use range::write_fresh_range;

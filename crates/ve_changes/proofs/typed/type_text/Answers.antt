@@ -1,7 +1,7 @@
 use Rattle.std.proofs.Common.{◌≤◌, ◌+◌, true, ap, ◌∙◌, subst, sym}
 use Rattle.model_world.specs.Answers.{typing}
 use Rattle.model_world.specs.Edits.{batch_on}
-use Rattle.model_world_law.specs.Cost.{cost_of_made, made_in_turn}
+use Rattle.model_world.specs.Cost.{cost_of_made, made_in_turn}
 use Rattle.model_world_law.specs.Fit.{AllWritten}
 use Rattle.ve_changes.specs.Batches.{IsBatch, IsBatchRefused}
 use Rattle.ve_changes.proofs.TypingLemmas.{typing_is_written}

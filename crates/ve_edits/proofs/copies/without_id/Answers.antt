@@ -27,6 +27,7 @@ loop-attr-preserved c =
 
 pub returns : goal.returns
 returns c =
-    c.loop-attr.invariant
+    c.shared.ensures
+    ∙ c.loop-attr.invariant
     ∙ ap (filter (has_other_name (codes "id"))) (take_all c.loop-attr.attr-index c.args.attrs.now (omega arith))
     ∙ removed_is (codes "id") c.args.attrs.now c.requires

@@ -3,7 +3,7 @@ use Rattle.std.proofs.lemmas.List.{take_more, take_all, map-append}
 use Rattle.ve_base.specs.declared.attrs.Attr.{Attr}
 use Rattle.ve_base.specs.Names.{names, NamesApart}
 use Rattle.ve_base.proofs.NamesLemmas.{NamesApart-push}
-use Rattle.ve_json.specs.Noted.{HaveSameNames}
+use Rattle.ve_tx.specs.Noted.{HaveSameNames}
 use Rattle.ve_json.proofs.ApartLemmas.{apart_all, noted_twice, one_more_last}
 use Rattle.ve_json.proofs.attributes.are_apart.Goals as goal
 

@@ -1,6 +1,6 @@
 use Rattle.std.proofs.Common.{take}
 use Rattle.ve_base.specs.Names.{names, NamesApart}
-use Rattle.ve_json.specs.Noted.{HaveSameNames}
+use Rattle.ve_tx.specs.Noted.{HaveSameNames}
 use Rattle.ve_json.proofs.attributes.are_apart.Given as goal
 
 abbrev pub invariant-loop-attr : goal.invariant-loop-attr

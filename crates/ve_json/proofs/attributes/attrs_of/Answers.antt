@@ -30,4 +30,4 @@ returns c =
     let attrs = c.loop-json.attrs in
     let all = sym c.loop-json.invariant ∙ at_drop_all (read_on attrs attr_in) c.args.list.now c.loop-json.json-index (omega (arith, c.loop-json-test.false)) ∙ ap (λ l. Some l) (append-nil attrs) in
     ap (such_that are_apart) all ∙ ap (λ b. if b then Some attrs else None) (ap are_apart (sym c.as_slice.ensures) ∙ sym c.in_ok-apart.ensures ∙ c.if-not-apart.false)
-    ∙ ap (λ l. Some l) (sym (c.from_vec.ensures ∙ c.into_vec.ensures))
+    ∙ ap (λ l. Some l) (sym (c.shared.ensures ∙ c.from_vec.ensures ∙ c.into_vec.ensures))

@@ -1,6 +1,6 @@
 use Rattle.std.proofs.Common.{◌≡◌, ◌≤◌, true, drop, length}
 use Rattle.model_world.specs.Operations.{words_are_normal}
-use Rattle.ve_json.specs.Noted.{HaveSameNames}
+use Rattle.ve_tx.specs.Noted.{HaveSameNames}
 use Rattle.ve_json.specs.Settings.{names_set}
 use Rattle.ve_json.proofs.operations.are_normal.Given as goal
 

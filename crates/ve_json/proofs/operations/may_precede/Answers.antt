@@ -1,9 +1,10 @@
 use Rattle.std.proofs.Common.{ap, sym, ◌∙◌, ◌∷◌, ◌≡◌, false, true, List, ℕ, subst}
 use Rattle.model_world.specs.Operations as operations
-use Rattle.ve_json.specs.Noted.{HaveSameNames}
+use Rattle.ve_tx.specs.Noted.{HaveSameNames}
+use Rattle.ve_tx.proofs.NotedLemmas.{one_more_first}
 use Rattle.ve_json.specs.Settings.{names_set, may_follow_setting}
 use Rattle.model_world.specs.declared.edit_command.OpWords.{OpWords}
-use Rattle.ve_json.proofs.SettingLemmas.{new_set, noted_set, one_more_set}
+use Rattle.ve_json.proofs.SettingLemmas.{new_set, noted_set}
 use Rattle.ve_json.proofs.operations.may_precede.Goals as goal
 
 pub returns-then-is_new-clause-may : goal.returns-then-is_new-clause-may
@@ -14,7 +15,7 @@ returns-then-is_new-clause-may c =
 pub returns-then-is_new-clause-names : goal.returns-then-is_new-clause-names
 returns-then-is_new-clause-names c = λ may.
     subst (λ (op : OpWords). HaveSameNames c.note.new.self (names_set (op ∷ c.args.later.now))) (sym c.in-Attr.is)
-    (one_more_set _ c.args.names.now c.note.new.self (names_set c.args.later.now) c.requires.names c.in_ok-is_new-in-Attr.ensures.noted)
+    (one_more_first _ c.args.names.now c.note.new.self (names_set c.args.later.now) c.requires.names c.in_ok-is_new-in-Attr.ensures.noted)
 
 pub returns-else-is_new-clause-may : goal.returns-else-is_new-clause-may
 returns-else-is_new-clause-may c =

@@ -1,6 +1,6 @@
 use Rattle.std.proofs.Common.{◌≡◌, ◌≤◌, ◌<◌, ◌+◌, ◌-◌, ◌++◌, length, take, drop, subst, arith}
 use Rattle.std.proofs.lemmas.List.{length-append}
-use Rattle.ve_editor.specs.Counted.{steps_after}
+use Rattle.model_change.specs.Cost.{cost_of_transactions}
 use Rattle.ve_site.specs.Dropped.{AreDropped, back_over}
 use Rattle.ve_site.proofs.DropLemmas.{at_cites, at_counts, at_gone, at_may_go, at_uncited, gone_within, none_taken_back}
 use Rattle.ve_site.proofs.pending.take_back.Goals as goal
@@ -80,4 +80,4 @@ pub returns-clause-steps : goal.returns-clause-steps
 returns-clause-steps g c =
     let all = c.args.sent.now ++ c.args.unsent.now in
     let same : c.loop-at.at ≡ c.args.left = omega (arith, c.loop-at.invariant.from, c.loop-at-test.false) in
-    subst (λ n. c.loop-at.steps ≤ c.args.steps.now + steps_after (back_over c.args.editor.now.store (drop n all)) c.args.editor.now.items) same c.loop-at.invariant.spent
+    subst (λ n. c.loop-at.steps ≤ c.args.steps.now + cost_of_transactions (back_over c.args.editor.now.store (drop n all)) c.args.editor.now.items) same c.loop-at.invariant.spent

@@ -1,5 +1,5 @@
 use Rattle.std.proofs.Common.{◌≤◌, ◌+◌, ◌++◌, take, drop}
-use Rattle.ve_editor.specs.Counted.{steps_after}
+use Rattle.model_change.specs.Cost.{cost_of_transactions}
 use Rattle.ve_site.specs.Dropped.{AreDropped, back_over}
 use Rattle.ve_site.proofs.pending.take_back.Given as goal
 
@@ -9,7 +9,7 @@ invariant-loop-at g l = record {
   within : l.at ≤ l.count;
   dropped : AreDropped l.fn.editor (take l.at (l.sent ++ l.unsent)) (drop l.at (l.sent ++ l.unsent)) l.editor;
   counted : l.fn.steps ≤ l.steps;
-  spent : l.steps ≤ l.fn.steps + steps_after (back_over l.fn.editor.store (drop l.at (l.sent ++ l.unsent))) l.fn.editor.items;
+  spent : l.steps ≤ l.fn.steps + cost_of_transactions (back_over l.fn.editor.store (drop l.at (l.sent ++ l.unsent))) l.fn.editor.items;
 }
 
 abbrev pub decreases-loop-at : goal.decreases-loop-at

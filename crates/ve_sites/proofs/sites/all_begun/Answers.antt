@@ -3,7 +3,7 @@ use Rattle.model_edit.specs.Translate.{between}
 use Rattle.model_items.specs.Plain.{plain_list}
 use Rattle.model_site.specs.Site.{starting}
 use Rattle.ve_editor.specs.Page.{page_of}
-use Rattle.ve_tree.specs.TreeOf.{most_steps}
+use Rattle.model_items.specs.Cost.{cost_of_tree}
 use Rattle.ve_sites.specs.Senders.{first_senders}
 use Rattle.ve_sites.proofs.BeginLemmas.{begun_more, steps_of_next, steps_so_far, steps_with_next}
 use Rattle.ve_sites.proofs.sites.all_begun.Goals as goal
@@ -16,7 +16,7 @@ returns-in_err-member-clause-counted g c = let a = c.loop-number.invariant.count
 
 pub returns-in_err-member-clause-steps : goal.returns-in_err-member-clause-steps
 returns-in_err-member-clause-steps g c =
-    steps_with_next c.loop-number.number c.args.sites (most_steps (plain_list c.args.values.now c.args.list.now.items)) c.args.steps.now c.loop-number.steps c.begin.new.steps
+    steps_with_next c.loop-number.number c.args.sites (cost_of_tree (plain_list c.args.values.now c.args.list.now.items)) c.args.steps.now c.loop-number.steps c.begin.new.steps
     c.loop-number-test.true c.loop-number.invariant.spent c.begin.ensures.steps
 
 pub returns-in_err-push-clause-counted : goal.returns-in_err-push-clause-counted
@@ -24,7 +24,7 @@ returns-in_err-push-clause-counted g c = let a = c.loop-number.invariant.counted
 
 pub returns-in_err-push-clause-steps : goal.returns-in_err-push-clause-steps
 returns-in_err-push-clause-steps g c =
-    steps_with_next c.loop-number.number c.args.sites (most_steps (plain_list c.args.values.now c.args.list.now.items)) c.args.steps.now c.loop-number.steps c.begin.new.steps
+    steps_with_next c.loop-number.number c.args.sites (cost_of_tree (plain_list c.args.values.now c.args.list.now.items)) c.args.steps.now c.loop-number.steps c.begin.new.steps
     c.loop-number-test.true c.loop-number.invariant.spent c.begin.ensures.steps
 
 pub loop-number-preserved : goal.loop-number-preserved
@@ -38,7 +38,7 @@ loop-number-preserved g c =
       within = omega (arith, below);
       members = begun_more c.loop-number.number site c.loop-number.members.items c.push.new.self.items c.in_ok-member.member c.loop-number.invariant.members more c.in_ok-member.ensures.ok;
       counted = omega (arith, a, b);
-      spent = steps_of_next c.loop-number.number (most_steps (plain_list c.args.values.now c.args.list.now.items)) c.args.steps.now c.loop-number.steps c.begin.new.steps
+      spent = steps_of_next c.loop-number.number (cost_of_tree (plain_list c.args.values.now c.args.list.now.items)) c.args.steps.now c.loop-number.steps c.begin.new.steps
           c.loop-number.invariant.spent c.begin.ensures.steps;
     }
 
@@ -54,5 +54,5 @@ returns-clause-counted g c = c.loop-number.invariant.counted
 
 pub returns-clause-steps : goal.returns-clause-steps
 returns-clause-steps g c =
-    steps_so_far c.loop-number.number c.args.sites (most_steps (plain_list c.args.values.now c.args.list.now.items)) c.args.steps.now c.loop-number.steps c.loop-number.invariant.within
+    steps_so_far c.loop-number.number c.args.sites (cost_of_tree (plain_list c.args.values.now c.args.list.now.items)) c.args.steps.now c.loop-number.steps c.loop-number.invariant.within
     c.loop-number.invariant.spent

@@ -9,7 +9,7 @@ use Rattle.model_site_law.proofs.KeptLemmas.{first_selection_stands}
 use Rattle.model_items.proofs.VerdictLemmas.{verdict_reads_no_values}
 use Rattle.model_items.specs.Law.{Lawful}
 use Rattle.ve_editor.specs.Page.{page_of}
-use Rattle.ve_tree.specs.TreeOf.{most_steps}
+use Rattle.model_items.specs.Cost.{cost_of_tree}
 use Rattle.ve_site.specs.Numbered.{Numbered}
 use Rattle.ve_sites.proofs.sites.begin.Goals as goal
 
@@ -40,9 +40,9 @@ returns-clause-ok g c =
 pub returns-in_err-editor-clause-steps : goal.returns-in_err-editor-clause-steps
 returns-in_err-editor-clause-steps g c =
     let v = c.args.values.now in
-    subst (λ l. c.new.new.steps ≤ c.args.steps.now + most_steps l) (ap (λ vs. plain_list vs c.in_ok-list.list.items) c.in_ok-values.ensures ∙ ap (plain_list v) c.in_ok-list.ensures.items) c.new.ensures.steps
+    subst (λ l. c.new.new.steps ≤ c.args.steps.now + cost_of_tree l) (ap (λ vs. plain_list vs c.in_ok-list.list.items) c.in_ok-values.ensures ∙ ap (plain_list v) c.in_ok-list.ensures.items) c.new.ensures.steps
 
 pub returns-clause-steps : goal.returns-clause-steps
 returns-clause-steps g c =
     let v = c.args.values.now in
-    subst (λ l. c.new.new.steps ≤ c.args.steps.now + most_steps l) (ap (λ vs. plain_list vs c.in_ok-list.list.items) c.in_ok-values.ensures ∙ ap (plain_list v) c.in_ok-list.ensures.items) c.new.ensures.steps
+    subst (λ l. c.new.new.steps ≤ c.args.steps.now + cost_of_tree l) (ap (λ vs. plain_list vs c.in_ok-list.list.items) c.in_ok-values.ensures ∙ ap (plain_list v) c.in_ok-list.ensures.items) c.new.ensures.steps

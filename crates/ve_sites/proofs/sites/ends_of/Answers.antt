@@ -1,5 +1,5 @@
 use Rattle.ve_site.proofs.EndLemmas.{at_most_both}
-use Rattle.ve_sites.proofs.EndLemmas.{known_leave}
+use Rattle.ve_sites.proofs.EndLemmas.{known_least, known_leave}
 use Rattle.ve_sites.proofs.sites.ends_of.Goals as goal
 
 pub returns : goal.returns
@@ -8,6 +8,8 @@ returns c =
     let f = c.ends_under.result in
     let within = c.ends.ensures.within in
     record {
+      least = known_least c.as_slice.result.now c.args.committed.now c.seen.result c.args.site.now.site c.args.most e f c.as_slice.ensures.values c.seen.ensures
+          c.ends_under.ensures.least c.ends.ensures.least;
       within = at_most_both e f c.args.most within c.ends_under.ensures.within;
       left = known_leave c.as_slice.result.now c.args.committed.now c.seen.result c.args.site.now.site e f c.as_slice.ensures.values c.seen.ensures within
           c.ends_under.ensures.left c.ends.ensures.left;

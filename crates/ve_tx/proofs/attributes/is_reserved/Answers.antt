@@ -1,8 +1,9 @@
+use Rattle.std.specs.Str.{chars}
 use Rattle.ve_tx.proofs.AttrsLemmas.{reserved_first, reserved_second}
 use Rattle.ve_tx.proofs.attributes.is_reserved.Goals as goal
 
-pub returns-then-is : goal.returns-then-is
-returns-then-is c = reserved_first c.is.result c.args.name.now c.is.ensures c.if-is.true
+pub returns-then-spells : goal.returns-then-spells
+returns-then-spells c = reserved_first c.spells.result (chars c.args.name.now) c.spells.ensures c.if-spells.true
 
-pub returns-else-is : goal.returns-else-is
-returns-else-is c = reserved_second c.is.result c.is-else-is.result c.args.name.now c.is.ensures c.is-else-is.ensures c.if-is.false
+pub returns-else-spells : goal.returns-else-spells
+returns-else-spells c = reserved_second c.spells.result c.spells-else-spells.result (chars c.args.name.now) c.spells.ensures c.spells-else-spells.ensures c.if-spells.false

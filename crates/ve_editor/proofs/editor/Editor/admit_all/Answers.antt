@@ -5,7 +5,7 @@ use Rattle.ve_tx.specs.Cites.{TxCites}
 use Rattle.ve_tx.specs.Operation.{Operation, by_value}
 use Rattle.ve_editor.specs.Edited.{AllStand}
 use Rattle.ve_editor.proofs.BackLemmas.{one_only}
-use Rattle.ve_editor.specs.Counted.{steps_after}
+use Rattle.model_change.specs.Cost.{cost_of_transactions}
 use Rattle.ve_editor.proofs.CountedLemmas.{one_within, copied_within, copy_within, mapped_several}
 use Rattle.ve_editor.proofs.editor.Editor.admit_all.Goals as goal
 
@@ -67,13 +67,13 @@ pub returns-in_err-kept-clause-steps : goal.returns-in_err-kept-clause-steps
 returns-in_err-kept-clause-steps g c =
     let ts = map (by_value c.args.values.now) c.args.txs.now in
     copied_within ts c.args.self.now.items c.args.steps.now c.copy.new.steps c.perform_others.new.steps (mapped_several (by_value c.args.values.now) c.args.txs.now (eqb-false (length c.args.txs.now) 0 (sym c.is_empty.ensures ∙ c.if-is_empty.false)) c.if-txs-eq1.false) c.copy.ensures.steps
-    (subst (λ (q : Replica). c.perform_others.new.steps ≤ c.copy.new.steps + steps_after ts q.items) c.in_ok-grown.ensures.ok c.perform_others.ensures.steps)
+    (subst (λ (q : Replica). c.perform_others.new.steps ≤ c.copy.new.steps + cost_of_transactions ts q.items) c.in_ok-grown.ensures.ok c.perform_others.ensures.steps)
 
 pub returns-clause-steps : goal.returns-clause-steps
 returns-clause-steps g c =
     let ts = map (by_value c.args.values.now) c.args.txs.now in
     copied_within ts c.args.self.now.items c.args.steps.now c.copy.new.steps c.perform_others.new.steps (mapped_several (by_value c.args.values.now) c.args.txs.now (eqb-false (length c.args.txs.now) 0 (sym c.is_empty.ensures ∙ c.if-is_empty.false)) c.if-txs-eq1.false) c.copy.ensures.steps
-    (subst (λ (q : Replica). c.perform_others.new.steps ≤ c.copy.new.steps + steps_after ts q.items) c.in_ok-grown.ensures.ok c.perform_others.ensures.steps)
+    (subst (λ (q : Replica). c.perform_others.new.steps ≤ c.copy.new.steps + cost_of_transactions ts q.items) c.in_ok-grown.ensures.ok c.perform_others.ensures.steps)
 
 pub returns-in_err-grown-clause-steps : goal.returns-in_err-grown-clause-steps
 returns-in_err-grown-clause-steps g c =

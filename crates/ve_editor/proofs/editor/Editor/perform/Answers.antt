@@ -2,7 +2,7 @@ use Rattle.std.proofs.Common.{◌≤◌, ◌+◌, [], ◌∷◌, sym, ap, ◌∙
 use Rattle.model_site.specs.Entries.{entry_of}
 use Rattle.model_site.specs.Refused.{edit_cause}
 use Rattle.model_site.specs.Replica.{Replica, performed}
-use Rattle.ve_editor.specs.Counted.{steps_of}
+use Rattle.model_change.specs.Cost.{cost_of_transaction}
 use Rattle.ve_editor.specs.Edited.{drafted, drafted_values}
 use Rattle.ve_editor.specs.Refusal.{IsEditRefusal}
 use Rattle.ve_editor.proofs.PerformLemmas.{performed_is, allowed_is, entry_is}
@@ -31,8 +31,8 @@ returns-in-Err-clause-refused g c =
 
 pub returns-in-Ok-clause-steps : goal.returns-in-Ok-clause-steps
 returns-in-Ok-clause-steps g c =
-    subst (λ (r : Replica). c.ready.new.steps ≤ c.args.steps.now + steps_of (drafted r.store c.args.draft.now) r.items) c.self.view_is c.ready.ensures.steps
+    subst (λ (r : Replica). c.ready.new.steps ≤ c.args.steps.now + cost_of_transaction (drafted r.store c.args.draft.now) r.items) c.self.view_is c.ready.ensures.steps
 
 pub returns-in-Err-clause-steps : goal.returns-in-Err-clause-steps
 returns-in-Err-clause-steps g c =
-    subst (λ (r : Replica). c.ready.new.steps ≤ c.args.steps.now + steps_of (drafted r.store c.args.draft.now) r.items) c.self.view_is c.ready.ensures.steps
+    subst (λ (r : Replica). c.ready.new.steps ≤ c.args.steps.now + cost_of_transaction (drafted r.store c.args.draft.now) r.items) c.self.view_is c.ready.ensures.steps

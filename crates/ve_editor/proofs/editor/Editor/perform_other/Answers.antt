@@ -4,7 +4,7 @@ use Rattle.model_change.specs.Inverse.{filled}
 use Rattle.model_site.specs.Replica.{Replica, performed}
 use Rattle.ve_tx.specs.Operation.{by_value}
 use Rattle.ve_editor.proofs.PerformLemmas.{other_is}
-use Rattle.ve_editor.specs.Counted.{steps_of}
+use Rattle.model_change.specs.Cost.{cost_of_transaction}
 use Rattle.ve_editor.proofs.editor.Editor.perform_other.Goals as goal
 
 pub returns-in-Ok-clause-page : goal.returns-in-Ok-clause-page
@@ -21,8 +21,8 @@ returns-in-Ok-clause-txs g c =
 
 pub returns-in-Err-clause-steps : goal.returns-in-Err-clause-steps
 returns-in-Err-clause-steps g c =
-    subst (λ (r : Replica). c.ready_other.new.steps ≤ c.args.steps.now + steps_of (by_value c.args.values.now c.args.tx.now) r.items) c.self.view_is c.ready_other.ensures.steps
+    subst (λ (r : Replica). c.ready_other.new.steps ≤ c.args.steps.now + cost_of_transaction (by_value c.args.values.now c.args.tx.now) r.items) c.self.view_is c.ready_other.ensures.steps
 
 pub returns-in-Ok-clause-steps : goal.returns-in-Ok-clause-steps
 returns-in-Ok-clause-steps g c =
-    subst (λ (r : Replica). c.ready_other.new.steps ≤ c.args.steps.now + steps_of (by_value c.args.values.now c.args.tx.now) r.items) c.self.view_is c.ready_other.ensures.steps
+    subst (λ (r : Replica). c.ready_other.new.steps ≤ c.args.steps.now + cost_of_transaction (by_value c.args.values.now c.args.tx.now) r.items) c.self.view_is c.ready_other.ensures.steps

@@ -2,7 +2,7 @@ use Rattle.std.proofs.Common.{◌≤◌, ◌+◌, map, drop, refl, sym, ap, subs
 use Rattle.model_site.specs.Replica.{Replica}
 use Rattle.ve_tx.specs.Cites.{TxCites}
 use Rattle.ve_tx.specs.Operation.{by_value}
-use Rattle.ve_editor.specs.Counted.{steps_after}
+use Rattle.model_change.specs.Cost.{cost_of_transactions}
 use Rattle.ve_editor.proofs.AdmitLemmas.{AdmittedSoFar, admitted_first, next_applies, next_lawful, admitted_next, admitted_all, one_left}
 use Rattle.ve_editor.proofs.CountedLemmas.{within_all, left_within_all}
 use Rattle.ve_editor.proofs.editor.Editor.perform_others.Goals as goal
@@ -34,9 +34,9 @@ loop-tx-preserved g c =
     let old = c.loop-tx.self in
     let t = by_value values c.tx-item.result in
     let rest = map (by_value values) (drop (c.loop-tx.tx-index + 1) txs) in
-    let all = c.args.steps.now + steps_after (map (by_value values) txs) c.args.self.now.items in
+    let all = c.args.steps.now + cost_of_transactions (map (by_value values) txs) c.args.self.now.items in
     let left = one_left values c.args.self.now txs c.loop-tx.tx-index old c.loop-tx.kept c.tx-item.result c.loop-tx.invariant.so_far c.loop-tx-test.true c.tx-item.is in
-    let bound = subst (λ l. c.loop-tx.steps + steps_after (map (by_value values) l) old.items ≤ all) left c.loop-tx.invariant.spent in
+    let bound = subst (λ l. c.loop-tx.steps + cost_of_transactions (map (by_value values) l) old.items ≤ all) left c.loop-tx.invariant.spent in
     record {
       so_far = admitted_next values c.args.self.now txs c.loop-tx.tx-index old c.loop-tx.kept c.tx-item.result c.loop-tx.invariant.so_far c.loop-tx-test.true c.tx-item.is
           c.perform_other.new.self c.in_ok-own.own c.append.new.self c.in_ok-own.ensures.page c.in_ok-own.ensures.txs c.in_ok-own.ensures.cites c.in_ok-append.ensures.ok;
@@ -52,9 +52,9 @@ returns-in_err-own-clause-steps g c =
     let old = c.loop-tx.self in
     let t = by_value values c.tx-item.result in
     let rest = map (by_value values) (drop (c.loop-tx.tx-index + 1) txs) in
-    let all = c.args.steps.now + steps_after (map (by_value values) txs) c.args.self.now.items in
+    let all = c.args.steps.now + cost_of_transactions (map (by_value values) txs) c.args.self.now.items in
     let left = one_left values c.args.self.now txs c.loop-tx.tx-index old c.loop-tx.kept c.tx-item.result c.loop-tx.invariant.so_far c.loop-tx-test.true c.tx-item.is in
-    let bound = subst (λ l. c.loop-tx.steps + steps_after (map (by_value values) l) old.items ≤ all) left c.loop-tx.invariant.spent in
+    let bound = subst (λ l. c.loop-tx.steps + cost_of_transactions (map (by_value values) l) old.items ≤ all) left c.loop-tx.invariant.spent in
     within_all t t rest old.items c.loop-tx.steps c.perform_other.new.steps all refl bound c.perform_other.ensures.steps
 
 pub returns-in_err-append-clause-steps : goal.returns-in_err-append-clause-steps
@@ -64,9 +64,9 @@ returns-in_err-append-clause-steps g c =
     let old = c.loop-tx.self in
     let t = by_value values c.tx-item.result in
     let rest = map (by_value values) (drop (c.loop-tx.tx-index + 1) txs) in
-    let all = c.args.steps.now + steps_after (map (by_value values) txs) c.args.self.now.items in
+    let all = c.args.steps.now + cost_of_transactions (map (by_value values) txs) c.args.self.now.items in
     let left = one_left values c.args.self.now txs c.loop-tx.tx-index old c.loop-tx.kept c.tx-item.result c.loop-tx.invariant.so_far c.loop-tx-test.true c.tx-item.is in
-    let bound = subst (λ l. c.loop-tx.steps + steps_after (map (by_value values) l) old.items ≤ all) left c.loop-tx.invariant.spent in
+    let bound = subst (λ l. c.loop-tx.steps + cost_of_transactions (map (by_value values) l) old.items ≤ all) left c.loop-tx.invariant.spent in
     within_all t t rest old.items c.loop-tx.steps c.perform_other.new.steps all refl bound c.perform_other.ensures.steps
 
 pub returns-clause-page : goal.returns-clause-page

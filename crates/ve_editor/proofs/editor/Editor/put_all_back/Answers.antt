@@ -7,7 +7,7 @@ use Rattle.model_site.specs.Replica.{Replica, put_back, all_put_back}
 use Rattle.ve_tx.specs.Cites.{TxCites}
 use Rattle.ve_tx.specs.Operation.{by_value}
 use Rattle.ve_tx.proofs.ValuesLemmas.{extends_on}
-use Rattle.ve_editor.specs.Counted.{steps_after}
+use Rattle.model_change.specs.Cost.{cost_of_transactions}
 use Rattle.ve_editor.specs.Edited.{AllStand, reversal_over}
 use Rattle.ve_editor.proofs.BackLemmas.{left_over, made_more, extends_back}
 use Rattle.ve_editor.proofs.CountedLemmas.{within_all, left_within_all}
@@ -75,9 +75,9 @@ loop-n-preserved g c =
     let last : k ≡ length txs - (c.loop-n.n + 1) = omega (arith, more) in
     let left = subst (λ j. AllStand (reversal_over store (take j txs)) old.items) next c.loop-n.invariant.left in
     let stands = subst (λ l. AllStand l old.items) (left_over store txs k tx below c.index-txs-txs.is) left in
-    let all = c.args.steps.now + steps_after (reversal_over store txs) c.args.self.now.items in
-    let bound = subst (λ l. c.loop-n.steps + steps_after l old.items ≤ all) (left_over store txs k tx below c.index-txs-txs.is)
-    (subst (λ j. c.loop-n.steps + steps_after (reversal_over store (take j txs)) old.items ≤ all) next c.loop-n.invariant.spent) in
+    let all = c.args.steps.now + cost_of_transactions (reversal_over store txs) c.args.self.now.items in
+    let bound = subst (λ l. c.loop-n.steps + cost_of_transactions l old.items ≤ all) (left_over store txs k tx below c.index-txs-txs.is)
+    (subst (λ j. c.loop-n.steps + cost_of_transactions (reversal_over store (take j txs)) old.items ≤ all) next c.loop-n.invariant.spent) in
     let one : new ≡ put_back (inverse (by_value store tx)) old = c.in_ok-put_back.ensures.page ∙ ap (λ t. put_back t old) back in
     record {
       made = one ∙ ap (put_back (inverse (by_value store tx))) c.loop-n.invariant.made
@@ -86,7 +86,7 @@ loop-n-preserved g c =
           ∙ ap (λ j. all_put_back (reversal_over store (drop j txs)) c.args.self.now) last;
       extends = extends_on store old.store new.store extends (extends_back (inverse (by_value store tx)) old new one);
       counted = omega (arith, c.loop-n.invariant.counted, c.put_back.ensures.counted);
-      spent = subst (λ j. c.put_back.new.steps + steps_after (reversal_over store (take j txs)) new.items ≤ all) last
+      spent = subst (λ j. c.put_back.new.steps + cost_of_transactions (reversal_over store (take j txs)) new.items ≤ all) last
           (left_within_all (inverse (by_value store tx)) (by_value old.store c.in_ok-back.back) (reversal_over store (take k txs)) old.items c.loop-n.steps c.put_back.new.steps all back bound
           c.put_back.ensures.steps new.items (ap (λ (r : Replica). r.items) one));
       left = subst (λ l. AllStand (reversal_over store (take (length txs - (c.loop-n.n + 1)) txs)) l) (sym (ap (λ (r : Replica). r.items) one))
@@ -105,8 +105,8 @@ returns-in_err-put_back-clause-steps g c =
     let cites : TxCites store tx = subst (TxCites store) (sym c.index-txs-txs.is) (c.requires.cites k tx below) in
     let back : by_value old.store c.in_ok-back.back ≡ inverse (by_value store tx) = c.in_ok-back.ensures.inverse old.store ∙ ap inverse (by_value-extended store old.store c.loop-n.invariant.extends tx cites) in
     let next : length txs - c.loop-n.n ≡ k + 1 = omega (arith, more) in
-    let all = c.args.steps.now + steps_after (reversal_over store txs) c.args.self.now.items in
-    let bound = subst (λ l. c.loop-n.steps + steps_after l old.items ≤ all) (left_over store txs k tx below c.index-txs-txs.is)
-    (subst (λ j. c.loop-n.steps + steps_after (reversal_over store (take j txs)) old.items ≤ all) next c.loop-n.invariant.spent) in
+    let all = c.args.steps.now + cost_of_transactions (reversal_over store txs) c.args.self.now.items in
+    let bound = subst (λ l. c.loop-n.steps + cost_of_transactions l old.items ≤ all) (left_over store txs k tx below c.index-txs-txs.is)
+    (subst (λ j. c.loop-n.steps + cost_of_transactions (reversal_over store (take j txs)) old.items ≤ all) next c.loop-n.invariant.spent) in
     within_all (inverse (by_value store tx)) (by_value old.store c.in_ok-back.back) (reversal_over store (take k txs)) old.items c.loop-n.steps c.put_back.new.steps all back bound
     c.put_back.ensures.steps

@@ -3,7 +3,7 @@ use Rattle.model_site.specs.Replica.{Replica, put_back}
 use Rattle.ve_tx.specs.Cites.{TxCites}
 use Rattle.ve_tx.specs.Operation.{by_value}
 use Rattle.ve_editor.proofs.PerformLemmas.{put_back_is}
-use Rattle.ve_editor.specs.Counted.{steps_of}
+use Rattle.model_change.specs.Cost.{cost_of_transaction}
 use Rattle.ve_editor.proofs.editor.Editor.put_back.Goals as goal
 
 pub returns-in-Ok-clause-page : goal.returns-in-Ok-clause-page
@@ -17,8 +17,8 @@ ready_back-requires-clause-cites g c = subst (λ (r : Replica). TxCites r.store 
 
 pub returns-in-Err-clause-steps : goal.returns-in-Err-clause-steps
 returns-in-Err-clause-steps g c =
-    subst (λ (r : Replica). c.ready_back.new.steps ≤ c.args.steps.now + steps_of (by_value r.store c.args.tx.now) r.items) c.self.view_is c.ready_back.ensures.steps
+    subst (λ (r : Replica). c.ready_back.new.steps ≤ c.args.steps.now + cost_of_transaction (by_value r.store c.args.tx.now) r.items) c.self.view_is c.ready_back.ensures.steps
 
 pub returns-in-Ok-clause-steps : goal.returns-in-Ok-clause-steps
 returns-in-Ok-clause-steps g c =
-    subst (λ (r : Replica). c.ready_back.new.steps ≤ c.args.steps.now + steps_of (by_value r.store c.args.tx.now) r.items) c.self.view_is c.ready_back.ensures.steps
+    subst (λ (r : Replica). c.ready_back.new.steps ≤ c.args.steps.now + cost_of_transaction (by_value r.store c.args.tx.now) r.items) c.self.view_is c.ready_back.ensures.steps

@@ -9,7 +9,7 @@ use Rattle.ve_tx.specs.Operation.{Operation, by_value}
 use Rattle.ve_editor.specs.Edited.{AllStand, reversal_over}
 use Rattle.ve_editor.proofs.BackLemmas.{one_only}
 use Rattle.model_change.specs.Inverse.{inverse}
-use Rattle.ve_editor.specs.Counted.{steps_after}
+use Rattle.model_change.specs.Cost.{cost_of_transactions}
 use Rattle.ve_editor.proofs.CountedLemmas.{one_within, copied_within, copy_within, reversal_several}
 use Rattle.ve_editor.proofs.editor.Editor.put_entry_back.Goals as goal
 
@@ -58,13 +58,13 @@ pub returns-in_err-put_all_back-clause-steps : goal.returns-in_err-put_all_back-
 returns-in_err-put_all_back-clause-steps g c =
     let r = c.args.self.now in
     copied_within (reversal_over r.store c.args.txs.now) r.items c.args.steps.now c.copy.new.steps c.put_all_back.new.steps (reversal_several (by_value r.store) c.args.txs.now (eqb-false (length c.args.txs.now) 0 (sym c.is_empty.ensures ∙ c.if-is_empty.false)) c.if-txs-eq1.false) c.copy.ensures.steps
-    (subst (λ (q : Replica). c.put_all_back.new.steps ≤ c.copy.new.steps + steps_after (reversal_over q.store c.args.txs.now) q.items) c.in_ok-copy.ensures.ok c.put_all_back.ensures.steps)
+    (subst (λ (q : Replica). c.put_all_back.new.steps ≤ c.copy.new.steps + cost_of_transactions (reversal_over q.store c.args.txs.now) q.items) c.in_ok-copy.ensures.ok c.put_all_back.ensures.steps)
 
 pub returns-clause-steps : goal.returns-clause-steps
 returns-clause-steps g c =
     let r = c.args.self.now in
     copied_within (reversal_over r.store c.args.txs.now) r.items c.args.steps.now c.copy.new.steps c.put_all_back.new.steps (reversal_several (by_value r.store) c.args.txs.now (eqb-false (length c.args.txs.now) 0 (sym c.is_empty.ensures ∙ c.if-is_empty.false)) c.if-txs-eq1.false) c.copy.ensures.steps
-    (subst (λ (q : Replica). c.put_all_back.new.steps ≤ c.copy.new.steps + steps_after (reversal_over q.store c.args.txs.now) q.items) c.in_ok-copy.ensures.ok c.put_all_back.ensures.steps)
+    (subst (λ (q : Replica). c.put_all_back.new.steps ≤ c.copy.new.steps + cost_of_transactions (reversal_over q.store c.args.txs.now) q.items) c.in_ok-copy.ensures.ok c.put_all_back.ensures.steps)
 
 pub returns-in_err-copy-clause-steps : goal.returns-in_err-copy-clause-steps
 returns-in_err-copy-clause-steps g c =

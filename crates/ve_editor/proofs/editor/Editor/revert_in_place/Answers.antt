@@ -3,7 +3,7 @@ use Rattle.model_items.specs.Plain.{AreDistinct}
 use Rattle.model_site.specs.Replica.{Replica, all_put_back}
 use Rattle.ve_editor.specs.Edited.{IsUncited, entry_by_value, reversal_over}
 use Rattle.ve_editor.proofs.BackLemmas.{distinct_back}
-use Rattle.ve_editor.specs.Counted.{steps_after}
+use Rattle.model_change.specs.Cost.{cost_of_transactions}
 use Rattle.ve_editor.proofs.editor.Editor.revert_in_place.Goals as goal
 
 pub cut_back-requires-clause-distinct : goal.cut_back-requires-clause-distinct
@@ -24,9 +24,9 @@ cut_back-requires-clause-uncited g c =
 pub returns-in_err-put_all_back-clause-steps : goal.returns-in_err-put_all_back-clause-steps
 returns-in_err-put_all_back-clause-steps g c =
     let r = c.args.self.now in
-    subst (λ l. c.put_all_back.new.steps ≤ c.args.steps.now + steps_after (reversal_over r.store l) r.items) c.as_slice.ensures c.put_all_back.ensures.steps
+    subst (λ l. c.put_all_back.new.steps ≤ c.args.steps.now + cost_of_transactions (reversal_over r.store l) r.items) c.as_slice.ensures c.put_all_back.ensures.steps
 
 pub returns-clause-steps : goal.returns-clause-steps
 returns-clause-steps g c =
     let r = c.args.self.now in
-    subst (λ l. c.put_all_back.new.steps ≤ c.args.steps.now + steps_after (reversal_over r.store l) r.items) c.as_slice.ensures c.put_all_back.ensures.steps
+    subst (λ l. c.put_all_back.new.steps ≤ c.args.steps.now + cost_of_transactions (reversal_over r.store l) r.items) c.as_slice.ensures c.put_all_back.ensures.steps

@@ -3,7 +3,7 @@ use Rattle.std.specs.Prelude.{Ok, OnOk}
 use Rattle.model_world.specs.declared.command.Command.TheVariants.{Ask}
 use Rattle.model_world.specs.declared.reply.Reply.{Reply}
 use Rattle.model_world.specs.Spelled.{reply_text}
-use Rattle.model_world_law.specs.Cost.{cost_of_command}
+use Rattle.model_world.specs.Cost.{cost_of_command}
 use Rattle.ve_session.specs.Asked.{reply_and_world}
 use Rattle.ve_session.specs.Opened.{lent_of, world_on, OnPage}
 use Rattle.ve_session.proofs.PageLemmas.{after_open, after_world, always, cost_within, may_turn, replied}

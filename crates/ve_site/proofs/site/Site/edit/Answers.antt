@@ -10,7 +10,7 @@ use Rattle.ve_editor.specs.Edited.{drafted, drafted_values}
 use Rattle.ve_editor.specs.Refusal.{IsEditRefusal}
 use Rattle.ve_site.specs.Numbered.{Numbered, IsSite}
 use Rattle.ve_site.proofs.StepLemmas.{roomy_same, roomy_is, edit_is, edited_is}
-use Rattle.ve_editor.specs.Counted.{steps_after}
+use Rattle.model_change.specs.Cost.{cost_of_transactions}
 use Rattle.ve_site.proofs.site.Site.edit.Goals as goal
 
 pub returns-in_err-entry-clause-refused : goal.returns-in_err-entry-clause-refused
@@ -62,12 +62,12 @@ one_more now after a h = omega arith
 
 pub returns-in_err-entry-clause-steps : goal.returns-in_err-entry-clause-steps
 returns-in_err-entry-clause-steps g c =
-    subst (λ (x : Site). c.perform.new.steps ≤ c.args.steps.now + steps_after (drafted x.replica.store c.args.draft.now ∷ []) x.replica.items) (ap (λ (v : Numbered). v.site) c.self.view_is)
+    subst (λ (x : Site). c.perform.new.steps ≤ c.args.steps.now + cost_of_transactions (drafted x.replica.store c.args.draft.now ∷ []) x.replica.items) (ap (λ (v : Numbered). v.site) c.self.view_is)
     (one_more c.args.steps.now c.perform.new.steps _ c.perform.ensures.steps)
 
 pub returns-clause-steps : goal.returns-clause-steps
 returns-clause-steps g c =
-    subst (λ (x : Site). c.perform.new.steps ≤ c.args.steps.now + steps_after (drafted x.replica.store c.args.draft.now ∷ []) x.replica.items) (ap (λ (v : Numbered). v.site) c.self.view_is)
+    subst (λ (x : Site). c.perform.new.steps ≤ c.args.steps.now + cost_of_transactions (drafted x.replica.store c.args.draft.now ∷ []) x.replica.items) (ap (λ (v : Numbered). v.site) c.self.view_is)
     (one_more c.args.steps.now c.perform.new.steps _ c.perform.ensures.steps)
 
 pub invariant_of-self-in_err-entry : goal.invariant_of-self-in_err-entry

@@ -6,7 +6,7 @@ use Rattle.model_site.specs.Replica.{Replica}
 use Rattle.model_site.specs.Site.{Site, pending}
 use Rattle.model_site.specs.Take.{take_entry}
 use Rattle.model_site.specs.Untold.{passed}
-use Rattle.ve_editor.specs.Counted.{steps_after}
+use Rattle.model_change.specs.Cost.{cost_of_transactions}
 use Rattle.ve_rebase.specs.Entries.{parcels_by_value}
 use Rattle.ve_rebase.specs.Lists.{RunFromOneLength}
 use Rattle.ve_rebase.specs.Under.{all_over}
@@ -16,7 +16,7 @@ use Rattle.ve_tx.specs.declared.entry.Entry.{Entry}
 use Rattle.ve_site.specs.Dropped.{numbered_alike}
 use Rattle.ve_site.specs.Ground.{ground_of}
 use Rattle.ve_site.specs.Numbered.{Numbered, with_site, IsSite}
-use Rattle.ve_site.specs.Taking.{taking_one}
+use Rattle.model_site.specs.Made.{taking_one}
 use Rattle.ve_site.proofs.InPlaceLemmas.{admitted_in_place, counts_in_place, noted_in_place, one_in_place, stands_in_place}
 use Rattle.ve_site.proofs.PendingLemmas.{may_join}
 use Rattle.ve_site.proofs.SeveralLemmas.{two_where_several}
@@ -153,7 +153,7 @@ returns-clause-steps g c =
     let few = lent_few s.editor s.untold s.seen s.sent.items s.history s.shared s.in_flight c.self.invariant c.args.foreign.now run c.as_slice-own_sent.result.now c.done.result.now
     c.as_slice-own_sent.ensures.value c.done.ensures c.in_ok-committed.field-0 c.in_ok-committed.ensures c.as_slice-left.result.now c.as_slice-left.ensures
     (omega (arith, txs, c.if-as_slice-gt1.false)) in
-    subst (λ (v : Numbered). c.admit.new.steps ≤ c.args.steps.now + steps_after (taking_one (parcel_by_value c.args.foreign.now) v.site) v.site.replica.items) c.self.view_is
+    subst (λ (v : Numbered). c.admit.new.steps ≤ c.args.steps.now + cost_of_transactions (taking_one (parcel_by_value c.args.foreign.now) v.site) v.site.replica.items) c.self.view_is
     (lent_counts s.editor s.untold s.seen s.sent.items s.history s.shared s.in_flight c.self.invariant c.args.foreign.now run c.as_slice-own_sent.result.now c.done.result.now
     c.as_slice-own_sent.ensures.value c.done.ensures c.in_ok-committed.field-0 c.in_ok-committed.ensures c.as_slice-left.result.now c.as_slice-left.ensures
     c.args.steps.now c.admit.new.steps
@@ -177,7 +177,7 @@ returns-in_err-stored-clause-steps g c =
     let few = lent_few s.editor s.untold s.seen s.sent.items s.history s.shared s.in_flight c.self.invariant c.args.foreign.now run c.as_slice-own_sent.result.now c.done.result.now
     c.as_slice-own_sent.ensures.value c.done.ensures c.in_ok-committed.field-0 c.in_ok-committed.ensures c.as_slice-left.result.now c.as_slice-left.ensures
     (omega (arith, txs, c.if-as_slice-gt1.false)) in
-    subst (λ (v : Numbered). c.admit.new.steps ≤ c.args.steps.now + steps_after (taking_one (parcel_by_value c.args.foreign.now) v.site) v.site.replica.items) c.self.view_is
+    subst (λ (v : Numbered). c.admit.new.steps ≤ c.args.steps.now + cost_of_transactions (taking_one (parcel_by_value c.args.foreign.now) v.site) v.site.replica.items) c.self.view_is
     (lent_counts s.editor s.untold s.seen s.sent.items s.history s.shared s.in_flight c.self.invariant c.args.foreign.now run c.as_slice-own_sent.result.now c.done.result.now
     c.as_slice-own_sent.ensures.value c.done.ensures c.in_ok-committed.field-0 c.in_ok-committed.ensures c.as_slice-left.result.now c.as_slice-left.ensures
     c.args.steps.now c.admit.new.steps

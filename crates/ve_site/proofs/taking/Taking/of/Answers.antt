@@ -1,6 +1,6 @@
 use Rattle.std.proofs.Common.{◌≤◌, ◌+◌, [], refl, ap, ◌∙◌, subst}
 use Rattle.model_site.specs.Untold.{Untold}
-use Rattle.ve_tree.specs.TreeOf.{most_steps}
+use Rattle.model_items.specs.Cost.{cost_of_tree}
 use Rattle.ve_site.specs.Dropped.{only_done}
 use Rattle.ve_site.specs.Numbered.{Numbered, site_of}
 use Rattle.ve_site.proofs.TakeLemmas.{copied_is, copied_same}
@@ -21,7 +21,7 @@ returns-clause-is g c =
     c.in_ok-editor.ensures.ok (c.into_vec.ensures ∙ (c.in_ok-sent.ensures ∙ c.as_slice.ensures.value)) (c.in_ok-unsent.ensures ∙ c.done.ensures) refl
 
 pub returns-clause-steps : goal.returns-clause-steps
-returns-clause-steps g c = subst (λ (v : Numbered). c.copy-2.new.steps ≤ c.args.steps.now + most_steps v.site.replica.items) c.site.view_is c.copy-2.ensures.steps
+returns-clause-steps g c = subst (λ (v : Numbered). c.copy-2.new.steps ≤ c.args.steps.now + cost_of_tree v.site.replica.items) c.site.view_is c.copy-2.ensures.steps
 
 pub returns-in_err-editor-clause-steps : goal.returns-in_err-editor-clause-steps
-returns-in_err-editor-clause-steps g c = subst (λ (v : Numbered). c.copy-2.new.steps ≤ c.args.steps.now + most_steps v.site.replica.items) c.site.view_is c.copy-2.ensures.steps
+returns-in_err-editor-clause-steps g c = subst (λ (v : Numbered). c.copy-2.new.steps ≤ c.args.steps.now + cost_of_tree v.site.replica.items) c.site.view_is c.copy-2.ensures.steps

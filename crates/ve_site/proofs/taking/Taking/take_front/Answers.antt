@@ -3,7 +3,7 @@ use Rattle.model_change.specs.Replay.{AllRun, flattened}
 use Rattle.model_site.specs.Replica.{all_performed}
 use Rattle.model_site.specs.Take.{take_foreign}
 use Rattle.model_site.specs.Untold.{passed}
-use Rattle.ve_editor.specs.Counted.{steps_after}
+use Rattle.model_change.specs.Cost.{cost_of_transactions}
 use Rattle.ve_editor.specs.Edited.{AllStand}
 use Rattle.ve_rebase.specs.Entries.{parcels_by_value}
 use Rattle.ve_rebase.specs.Lists.{RunFromOneLength}
@@ -11,7 +11,7 @@ use Rattle.ve_rebase.specs.Under.{AreAllUnder, all_over}
 use Rattle.ve_tx.specs.ByValue.{parcel_by_value, ParcelCites}
 use Rattle.ve_site.specs.Dropped.{numbered_alike, only_done}
 use Rattle.ve_site.specs.Ground.{ground_of}
-use Rattle.ve_site.specs.Taking.{taking_all}
+use Rattle.model_site.specs.Made.{taking_all}
 use Rattle.ve_site.specs.Underway.{taking_site}
 use Rattle.ve_site.proofs.FeedLemmas.{first_within}
 use Rattle.ve_site.proofs.FrontSiteLemmas.{all_by_value, front_is_site, front_same, front_stand, makes_front}
@@ -71,11 +71,11 @@ returns-clause-steps g c =
     let both = ap (λ l. l ++ c.as_slice-own_unsent.result.now) c.as_slice-own_sent.ensures.value ∙ ap (λ l. t.sent.items ++ l) c.as_slice-own_unsent.ensures in
     let made = c.in_ok-committed.field-0 in
     let under = subst (λ es. AreAllUnder c.args.parcels.now es made) both c.in_ok-committed.ensures in
-    let steps : c.admit_each.new.steps ≤ c.args.steps.now + steps_after (taking_all (map parcel_by_value (take (length made.committed) c.args.parcels.now)) (taking_site t)) t.editor.items =
-    subst (λ ts. c.admit_each.new.steps ≤ c.args.steps.now + steps_after ts t.editor.items)
+    let steps : c.admit_each.new.steps ≤ c.args.steps.now + cost_of_transactions (taking_all (map parcel_by_value (take (length made.committed) c.args.parcels.now)) (taking_site t)) t.editor.items =
+    subst (λ ts. c.admit_each.new.steps ≤ c.args.steps.now + cost_of_transactions ts t.editor.items)
     (ap (λ ps. flattened (map parcel_by_value ps)) c.as_slice.ensures
     ∙ sym (makes_front t.editor t.untold t.seen t.sent.items (only_done t.unsent) t.shared t.in_flight c.requires.is c.args.parcels.now c.requires.run made under)) c.admit_each.ensures.steps in
-    subst (λ n. c.admit_each.new.steps ≤ c.args.steps.now + steps_after (taking_all (map parcel_by_value (take n c.args.parcels.now)) (taking_site t)) t.editor.items)
+    subst (λ n. c.admit_each.new.steps ≤ c.args.steps.now + cost_of_transactions (taking_all (map parcel_by_value (take n c.args.parcels.now)) (taking_site t)) t.editor.items)
     (sym (ap length c.as_slice-count.ensures)) steps
 
 pub returns-clause-within : goal.returns-clause-within
@@ -84,8 +84,8 @@ returns-clause-within g c =
     let both = ap (λ l. l ++ c.as_slice-own_unsent.result.now) c.as_slice-own_sent.ensures.value ∙ ap (λ l. t.sent.items ++ l) c.as_slice-own_unsent.ensures in
     let made = c.in_ok-committed.field-0 in
     let under = subst (λ es. AreAllUnder c.args.parcels.now es made) both c.in_ok-committed.ensures in
-    let steps : c.admit_each.new.steps ≤ c.args.steps.now + steps_after (taking_all (map parcel_by_value (take (length made.committed) c.args.parcels.now)) (taking_site t)) t.editor.items =
-    subst (λ ts. c.admit_each.new.steps ≤ c.args.steps.now + steps_after ts t.editor.items)
+    let steps : c.admit_each.new.steps ≤ c.args.steps.now + cost_of_transactions (taking_all (map parcel_by_value (take (length made.committed) c.args.parcels.now)) (taking_site t)) t.editor.items =
+    subst (λ ts. c.admit_each.new.steps ≤ c.args.steps.now + cost_of_transactions ts t.editor.items)
     (ap (λ ps. flattened (map parcel_by_value ps)) c.as_slice.ensures
     ∙ sym (makes_front t.editor t.untold t.seen t.sent.items (only_done t.unsent) t.shared t.in_flight c.requires.is c.args.parcels.now c.requires.run made under)) c.admit_each.ensures.steps in
     first_within (length made.committed) c.args.parcels.now (taking_site t) c.args.steps.now c.admit_each.new.steps steps
@@ -96,8 +96,8 @@ returns-in_err-admit_each-clause-within g c =
     let both = ap (λ l. l ++ c.as_slice-own_unsent.result.now) c.as_slice-own_sent.ensures.value ∙ ap (λ l. t.sent.items ++ l) c.as_slice-own_unsent.ensures in
     let made = c.in_ok-committed.field-0 in
     let under = subst (λ es. AreAllUnder c.args.parcels.now es made) both c.in_ok-committed.ensures in
-    let steps : c.admit_each.new.steps ≤ c.args.steps.now + steps_after (taking_all (map parcel_by_value (take (length made.committed) c.args.parcels.now)) (taking_site t)) t.editor.items =
-    subst (λ ts. c.admit_each.new.steps ≤ c.args.steps.now + steps_after ts t.editor.items)
+    let steps : c.admit_each.new.steps ≤ c.args.steps.now + cost_of_transactions (taking_all (map parcel_by_value (take (length made.committed) c.args.parcels.now)) (taking_site t)) t.editor.items =
+    subst (λ ts. c.admit_each.new.steps ≤ c.args.steps.now + cost_of_transactions ts t.editor.items)
     (ap (λ ps. flattened (map parcel_by_value ps)) c.as_slice.ensures
     ∙ sym (makes_front t.editor t.untold t.seen t.sent.items (only_done t.unsent) t.shared t.in_flight c.requires.is c.args.parcels.now c.requires.run made under)) c.admit_each.ensures.steps in
     first_within (length made.committed) c.args.parcels.now (taking_site t) c.args.steps.now c.admit_each.new.steps steps

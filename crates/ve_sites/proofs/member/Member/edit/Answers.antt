@@ -1,7 +1,7 @@
 use Rattle.std.proofs.Common.{◌≡◌, ◌≤◌, ◌+◌, [], ◌∷◌, Ok, IfErr, OnOk, subst}
 use Rattle.model_site.specs.Refused.{edit_cause}
 use Rattle.model_site.specs.Site.{edit}
-use Rattle.ve_editor.specs.Counted.{steps_after}
+use Rattle.model_change.specs.Cost.{cost_of_transactions}
 use Rattle.ve_editor.specs.Edited.{drafted}
 use Rattle.ve_editor.specs.Refusal.{IsEditRefusal}
 use Rattle.ve_sites.specs.Senders.{Sender}
@@ -17,4 +17,4 @@ returns-clause-refused g c =
 
 pub returns-clause-steps : goal.returns-clause-steps
 returns-clause-steps g c =
-    subst (λ (x : Sender). c.edit.new.steps ≤ c.args.steps.now + steps_after (drafted x.site.replica.store c.args.draft.now ∷ []) x.site.replica.items) c.self.view_is c.edit.ensures.steps
+    subst (λ (x : Sender). c.edit.new.steps ≤ c.args.steps.now + cost_of_transactions (drafted x.site.replica.store c.args.draft.now ∷ []) x.site.replica.items) c.self.view_is c.edit.ensures.steps

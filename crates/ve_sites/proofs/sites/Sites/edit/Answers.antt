@@ -3,7 +3,7 @@ use Rattle.std.proofs.Common.{rules, arith, length, ◌≡◌, ◌≤◌, ◌+�
 use Rattle.model_change.specs.Transaction.{InsertedApart, is_reduced}
 use Rattle.model_site.specs.Refused.{edit_cause}
 use Rattle.model_site.specs.Site.{Site, edit}
-use Rattle.ve_editor.specs.Counted.{steps_after}
+use Rattle.model_change.specs.Cost.{cost_of_transactions}
 use Rattle.ve_editor.specs.Edited.{IsDraftOf, drafted, drafted_values}
 use Rattle.ve_editor.specs.Refusal.{IsEditRefusal}
 use Rattle.ve_tx.proofs.ChangeLemmas.{normal-reduced}
@@ -70,4 +70,4 @@ returns-clause-steps g c =
     let s = c.self.inside in
     let p : Placed c.args.self.now s.values s.first.items s.server s.members.items c.args.k c.index_mut.result.now =
     record { holds = c.self.invariant; view = c.self.view_is; inside = c.requires.site; is = c.index_mut.ensures.value } in
-    told p (λ (x : Site). c.edit.new.steps ≤ c.args.steps.now + steps_after (drafted x.replica.store c.args.draft.now ∷ []) x.replica.items) c.edit.ensures.steps
+    told p (λ (x : Site). c.edit.new.steps ≤ c.args.steps.now + cost_of_transactions (drafted x.replica.store c.args.draft.now ∷ []) x.replica.items) c.edit.ensures.steps

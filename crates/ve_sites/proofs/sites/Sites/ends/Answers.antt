@@ -3,7 +3,7 @@ use Rattle.std.proofs.Common.{rules, arith, length, List, ap, ◌∙◌, ◌≡�
 use Rattle.model_change.specs.Replay.{flattened}
 use Rattle.model_site.specs.Entries.{Parcel}
 use Rattle.model_site.specs.Site.{Site, entries_of}
-use Rattle.ve_site.specs.Ends.{LeaveEnds}
+use Rattle.ve_site.specs.Ends.{LeaveEnds, least_ends, whole_list}
 use Rattle.ve_sites.specs.Shared.{Shared}
 use Rattle.ve_sites.proofs.PlacedLemmas.{Placed, room, told}
 use Rattle.ve_sites.proofs.RevokeLemmas.{seen_within}
@@ -37,6 +37,10 @@ returns c =
     let committed = c.committed.ensures ∙ ap (λ (x : Shared). x.session.committed) c.self.view_is in
     let within = c.ends_of.ensures.within in
     record {
+      least = told p (λ (x : Site). e ≡ least_ends (whole_list (length c.args.self.now.first)) (flattened (entries_of c.args.self.now.session.committed x)))
+          (subst (λ n. e ≡ least_ends (whole_list n) (flattened (entries_of c.args.self.now.session.committed m.site))) long
+          (subst (λ ps. e ≡ least_ends (whole_list c.len-count.result) (flattened (entries_of ps m.site))) committed
+          (subst (λ (x : Site). e ≡ least_ends (whole_list c.len-count.result) (flattened (entries_of c.committed.result.now x))) c.site.ensures.site c.ends_of.ensures.least)));
       within = (omega (arith, within.0, long), omega (arith, within.1, long));
       left = told p (λ (x : Site). LeaveEnds e (flattened (entries_of c.args.self.now.session.committed x)))
           (subst (λ ps. LeaveEnds e (flattened (entries_of ps m.site))) committed

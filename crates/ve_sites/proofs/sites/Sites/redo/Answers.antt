@@ -3,7 +3,7 @@ use Rattle.std.proofs.Common.{rules, arith, length, ◌≡◌, ◌≤◌, ◌+�
 use Rattle.model_site.specs.Site.{Site, redo}
 use Rattle.model_site.specs.declared.site_fault.RedoFault.TheVariants as fault
 use Rattle.ve_editor.specs.Counted.{steps_over}
-use Rattle.ve_site.specs.Counted.{redoing}
+use Rattle.model_site.specs.Made.{redoing}
 use Rattle.ve_site.specs.Refusal.{IsRedoRefusal}
 use Rattle.ve_sites.proofs.PlacedLemmas.{Placed, either, kept_stays, on_ok, room, told, told_both, redone_stays, with_its_site}
 use Rattle.ve_sites.proofs.sites.Sites.redo.Goals as goal

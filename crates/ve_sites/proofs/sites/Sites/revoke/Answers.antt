@@ -11,7 +11,7 @@ use Rattle.ve_peer_undo.specs.Refusal.{IsRevokeRefusal}
 use Rattle.ve_tx.specs.ByValue.{parcel_by_value}
 use Rattle.ve_sites.specs.Senders.{Sender, at_site}
 use Rattle.ve_sites.specs.Shared.{Shared}
-use Rattle.ve_sites.specs.Turns.{revoking}
+use Rattle.model_site.specs.Made.{revoking}
 use Rattle.ve_sites.proofs.PlacedLemmas.{Placed, asked, one_place, revoked_stays, room, told, told_both, with_its_site}
 use Rattle.ve_sites.proofs.RevokeLemmas.{back_is, back_runs, later_may, later_revoked, revoke_gives, seen_within, some_later}
 use Rattle.ve_sites.proofs.sites.Sites.revoke.Goals as goal

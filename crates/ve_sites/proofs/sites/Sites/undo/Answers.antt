@@ -3,7 +3,7 @@ use Rattle.std.proofs.Common.{rules, arith, length, ◌≡◌, ◌≤◌, ◌+�
 use Rattle.model_site.specs.Site.{Site, undo}
 use Rattle.model_site.specs.declared.site_fault.UndoFault.TheVariants as fault
 use Rattle.ve_editor.specs.Counted.{steps_over}
-use Rattle.ve_site.specs.Counted.{undoing}
+use Rattle.model_site.specs.Made.{undoing}
 use Rattle.ve_site.specs.Refusal.{IsUndoRefusal}
 use Rattle.ve_sites.proofs.PlacedLemmas.{Placed, either, kept_stays, on_ok, room, told, told_both, undone_stays, with_its_site}
 use Rattle.ve_sites.proofs.sites.Sites.undo.Goals as goal

@@ -1,5 +1,0 @@
-use Rattle.std.proofs.Common.{◌≡◌, take}
-use Rattle.ve_base.proofs.attrs.AttrsSame.same.Given as goal
-
-abbrev pub invariant-loop-i : goal.invariant-loop-i
-invariant-loop-i l = take l.i l.self-inside.list.items ≡ take l.i l.other-inside.list.items

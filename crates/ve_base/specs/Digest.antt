@@ -1,0 +1,20 @@
+-- What a list of attributes is told apart by before it is compared: 64 bits of all its texts.
+use Rattle.std.specs.Prelude.{ℕ, List, ◌++◌, fold}
+use Rattle.std.specs.List.{flat_map}
+use Rattle.std.specs.Str.{encode_utf8_all}
+use Rattle.std.specs.Hash as fed
+use Rattle.std.specs.Hash.FoldHasher as folding
+use Rattle.ve_base.specs.declared.attrs.Attr.{Attr}
+
+-- the writes of a text to a hasher
+abbrev pub text_input : List ℕ → List (List ℕ)
+text_input text = fed.str (encode_utf8_all text)
+
+abbrev pub attr_input : Attr → List (List ℕ)
+attr_input attr = text_input attr.name ++ text_input attr.value
+
+abbrev pub attrs_input : List Attr → List (List ℕ)
+attrs_input attrs = flat_map attr_input attrs
+
+abbrev pub digest_of : List Attr → ℕ
+digest_of attrs = folding.finish (fold folding.write folding.initial (attrs_input attrs))

@@ -1,0 +1,34 @@
+use Rattle.std.proofs.Common.{ap, sym, ◌∙◌, ◌∷◌, ◌≡◌, ◌+◌, ◌-◌, ◌<◌, false, true, List, ℕ, subst, length, drop, arith}
+use Rattle.ve_tx.specs.declared.op.Op.{Op}
+use Rattle.ve_tx.specs.Normal.{are_reduced, first_names, may_stand_before}
+use Rattle.ve_tx.specs.Noted.{HaveSameNames}
+use Rattle.ve_tx.proofs.FirstNamesLemmas.{rest_of, nothing_reduced, misplaced_reduced, reduced_more, names_more}
+use Rattle.ve_tx.proofs.normal.is_reduced_by_names.Goals as goal
+
+pub may_precede_by_names-requires-clause-names : goal.may_precede_by_names-requires-clause-names
+may_precede_by_names-requires-clause-names c =
+    let next : c.loop-i.i ≡ c.loop-i.i - 1 + 1 = omega (arith, c.loop-i-test.true) in
+    subst (λ (later : List Op). HaveSameNames c.loop-i.names (first_names later)) (ap (λ n. drop n c.args.ops.now) next ∙ sym (rest_of c.args.ops.now (c.loop-i.i - 1 + 1))) c.loop-i.invariant.names
+
+pub returns-then-not-is_something : goal.returns-then-not-is_something
+returns-then-not-is_something c =
+    sym (nothing_reduced c.args.ops.now (c.loop-i.i - 1) c.index-ops-i.result (omega (arith, c.loop-i-test.true, c.loop-i.invariant.within)) c.index-ops-i.is (sym c.is_something.ensures ∙ c.if-not-is_something.true))
+
+pub returns-then-not-may_stand : goal.returns-then-not-may_stand
+returns-then-not-may_stand c =
+    sym (misplaced_reduced c.args.ops.now (c.loop-i.i - 1) c.index-ops-i.result (omega (arith, c.loop-i-test.true, c.loop-i.invariant.within)) c.index-ops-i.is
+    (ap (may_stand_before c.index-ops-i.result) (sym (rest_of c.args.ops.now (c.loop-i.i - 1 + 1))) ∙ sym c.in_ok-may_stand.ensures.may ∙ c.if-not-may_stand.true))
+
+pub loop-i-preserved : goal.loop-i-preserved
+loop-i-preserved c =
+    let within : c.loop-i.i - 1 < length c.args.ops.now = omega (arith, c.loop-i-test.true, c.loop-i.invariant.within) in
+    let rest = rest_of c.args.ops.now (c.loop-i.i - 1 + 1) in
+    let next : c.loop-i.i ≡ c.loop-i.i - 1 + 1 = omega (arith, c.loop-i-test.true) in
+    record {
+      within = omega (arith, within);
+      reduced = reduced_more c.args.ops.now (c.loop-i.i - 1) c.index-ops-i.result within c.index-ops-i.is (sym c.is_something.ensures ∙ c.if-not-is_something.false)
+          (ap (may_stand_before c.index-ops-i.result) (sym rest) ∙ sym c.in_ok-may_stand.ensures.may ∙ c.if-not-may_stand.false)
+          (ap (λ n. are_reduced (drop n c.args.ops.now)) (sym next) ∙ c.loop-i.invariant.reduced);
+      names = names_more c.args.ops.now (c.loop-i.i - 1) c.index-ops-i.result c.may_precede_by_names.new.names within c.index-ops-i.is
+          (subst (λ (later : List Op). HaveSameNames c.may_precede_by_names.new.names (first_names (c.index-ops-i.result ∷ later))) rest (c.in_ok-may_stand.ensures.names c.if-not-may_stand.false));
+    }
