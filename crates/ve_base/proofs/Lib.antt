@@ -1,3 +1,4 @@
 mod Examples
 pub mod FeedLemmas
 pub mod NamesLemmas
+mod PartsLemmas
