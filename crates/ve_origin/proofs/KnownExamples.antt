@@ -17,7 +17,7 @@ abbrev from_the_beginning : ℕ → Run
 from_the_beginning count = record { now = 0; first = 0; count = count }
 
 abbrev found : ℕ → Known
-found count = record { alike = from_the_beginning count }
+found count = record { alike = from_the_beginning count; at_end = from_the_beginning 0 }
 
 -- the origin 0 has both letters
 abbrev both : OriginRow

@@ -1,8 +1,8 @@
 // What is known of two lists since they were compared before.
-ghost use Rattle.std.specs.Prelude.{◌≡◌, ◌≤◌, ◌<◌, ◌+◌, ◌-◌, List};
+ghost use Rattle.std.specs.Prelude.{◌≡◌, ◌≤◌, ◌<◌, ◌+◌, ◌-◌, ℕ, List};
 ghost use Rattle.model_items.specs.declared.item.Item.{Item as Cited};
 ghost use Rattle.model_page.specs.declared.ref_table.RefRow.{RefRow as Row};
-ghost use Rattle.ve_origin.specs.Known.{IsKnown};
+ghost use Rattle.ve_origin.specs.Known.{AreKnown, IsKnown, Match};
 ghost use Rattle.ve_origin.specs.Origins.{FirstRead};
 
 /// So many items, from a place of a list on and from a place of the list that was first read on.
@@ -13,11 +13,12 @@ pub struct Run {
     pub count: usize,
 }
 
-/// What is known of a list beside the one that was first read: items that are alike. It spares comparing them
-/// again, and decides nothing.
+/// What is known of a list beside the one that was first read: a run of items that are alike, and
+/// another at the end of both lists. It spares comparing them again, and decides nothing.
 #[derive(Clone, Copy, Debug)]
 pub struct Known {
     pub alike: Run,
+    pub at_end: Run,
 }
 
 impl Known {
@@ -25,17 +26,34 @@ impl Known {
     pub fn nothing() -> Known
         ensures { (now : List Cited) (refs : List Row) (o : FirstRead) → IsKnown now refs o result }
     {
-        let alike = Run {
+        let none = Run {
             now: 0,
             first: 0,
             count: 0,
         };
-        Known { alike }
+        Known {
+            alike: none,
+            at_end: none,
+        }
+    }
+
+    /// How many items are known to be alike from these places on.
+    pub(crate) fn reach(self, now: usize, first: usize) -> usize
+        ensures { (items others : List Cited) (count : ℕ)
+            → AreKnown items others self
+            → count ≤ result
+            → Match items others now first count }
+    {
+        let run = reach(self.alike, now, first);
+        if run > 0 {
+            return run;
+        }
+        reach(self.at_end, now, first)
     }
 }
 
 /// How many items of a run stand from these places on, where they are in step with it.
-pub fn reach(run: Run, now: usize, first: usize) -> usize
+fn reach(run: Run, now: usize, first: usize) -> usize
     ensures before { 0 < result → run.now ≤ now }
     ensures step { 0 < result → first ≡ run.first + (now - run.now) }
     ensures end { 0 < result → now - run.now + result ≡ run.count }

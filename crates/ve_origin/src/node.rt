@@ -1,10 +1,10 @@
 // Whether a node has the items that it had.
 ghost use Rattle.std.specs.Prelude.{◌≡◌, ◌≤◌, ◌<◌, ◌+◌, ◌↔◌, IsTrue, length, slice_range};
-ghost use Rattle.ve_origin.specs.Known.{AreAlike, IsRunOf};
+ghost use Rattle.ve_origin.specs.Known.{AreKnown, IsRunOf};
 ghost use Rattle.ve_origin.specs.Without.{without, AreSameNodes};
 
 use crate::compare::alike_after;
-use crate::known::Run;
+use crate::known::{Known, Run};
 use model_items::Item;
 use ve_items::{Linear, same_item};
 
@@ -42,12 +42,12 @@ pub fn same_node(
     first: &Linear,
     place: usize,
     count: usize,
-    known: Run,
+    known: Known,
 ) -> bool
     requires some { 0 < count }
     requires here { from + count ≤ length now.now.items }
     requires there { place + count ≤ length first.now.items }
-    requires known { AreAlike now.now.items first.now.items known }
+    requires known { AreKnown now.now.items first.now.items known }
     ensures { IsTrue result ↔ AreSameNodes now.now.items from first.now.items place count }
 {
     // both lists' lengths fit, and so does each position in them
@@ -71,12 +71,12 @@ pub fn run_of(
     first: &Linear,
     place: usize,
     count: usize,
-    known: Run,
+    known: Known,
 ) -> Run
     requires some { 0 < count }
     requires here { from + count ≤ length now.now.items }
     requires there { place + count ≤ length first.now.items }
-    requires known { AreAlike now.now.items first.now.items known }
+    requires known { AreKnown now.now.items first.now.items known }
     ensures { IsRunOf now.now.items from first.now.items place count result }
 {
     let _here = now.len();

@@ -1,7 +1,7 @@
 // The page that was first read, and which nodes are still as they were.
 ghost use Rattle.std.specs.Prelude.{◌≡◌, ◌≤◌, ◌<◌, ◌↔◌, IsTrue, length, take, drop, slice_get, Some};
 ghost use Rattle.model_page_write.specs.PageText.{part_at};
-ghost use Rattle.ve_origin.specs.Known.{AreAlike, IsKnown, IsCompared};
+ghost use Rattle.ve_origin.specs.Known.{AreKnown, IsKnown, IsCompared};
 ghost use Rattle.ve_origin.specs.Origins.{spans, first_read, items_had, FirstRead, IsCut, IsRow, AreRows, Keeps};
 
 use crate::carried::{Side, all_carry_same};
@@ -103,11 +103,11 @@ impl<'a> Origins<'a> {
     /// Whether a list is the one that was first read. What is known isn't compared again; it stops
     /// at the first difference, and walks over borrowed pieces.
     pub fn is_first_after(&self, now: &Linear, known: Known) -> bool
-        requires known { AreAlike now.now.items self.now.items known.alike }
+        requires known { AreKnown now.now.items self.now.items known }
         ensures { IsTrue result ↔ (now.now.items ≡ self.now.items) }
     {
         let len = now.len();
-        len == self.first.len() && alike_after(now, 0, self.first, 0, len, known.alike) == len
+        len == self.first.len() && alike_after(now, 0, self.first, 0, len, known) == len
     }
 
     fn row(&self, k: u32) -> OriginRow
@@ -167,7 +167,7 @@ impl<'a> Origins<'a> {
         if now.len() - from < count {
             return false;
         }
-        if !same_node(now, from, self.first, row.from, count, known.alike) {
+        if !same_node(now, from, self.first, row.from, count, known) {
             return false;
         }
         let now = Side {
@@ -206,7 +206,7 @@ impl<'a> Origins<'a> {
         if now.len() - from < count {
             return known;
         }
-        let alike = run_of(now, from, self.first, row.from, count, known.alike);
-        Known { alike }
+        let alike = run_of(now, from, self.first, row.from, count, known);
+        Known { alike, ..known }
     }
 }

@@ -1,13 +1,13 @@
 use Rattle.std.proofs.Common.{List, ap, sym, subst, ◌∙◌, ◌≤◌, ◌+◌, ◌-◌, length, arith}
 use Rattle.model_items.specs.declared.item.Item.{Item}
-use Rattle.ve_origin.specs.Known.{AreAlike}
+use Rattle.ve_origin.specs.Known.{AreKnown}
 use Rattle.ve_origin.specs.Origins.{FirstRead}
 use Rattle.ve_origin.proofs.AnswerLemmas.{keeps_by, keeps_not, keeps_all}
 use Rattle.ve_origin.proofs.origin.Origins.kept_after.Goals as goal
 
 pub same_node-requires-clause-known : goal.same_node-requires-clause-known
 same_node-requires-clause-known c =
-    subst (λ (l : List Item). AreAlike c.args.now.now.items l c.args.known.alike) (sym (ap (λ (o : FirstRead). o.items) c.self.view_is)) c.requires.known.alike
+    subst (λ (l : List Item). AreKnown c.args.now.now.items l c.args.known) (sym (ap (λ (o : FirstRead). o.items) c.self.view_is)) c.requires.known.items
 
 pub returns-then-len-from : goal.returns-then-len-from
 returns-then-len-from c =
