@@ -3,7 +3,7 @@ ghost use Rattle.std.specs.Prelude.{◌≡◌, true, All, IfOk};
 ghost use Rattle.model_items.specs.Plain.{CitesWell};
 ghost use Rattle.model_page.specs.Editable.{all_refer};
 ghost use Rattle.ve_answers.specs.Replies.{html_reply};
-ghost use Rattle.ve_origin.specs.Known.{AreAlike};
+ghost use Rattle.ve_origin.specs.Known.{AreKnown};
 ghost use Rattle.ve_write.specs.Originals.{opened_over, IsFirst};
 ghost use Rattle.ve_offsets.specs.Docs.{page_items, IsDoc};
 ghost use Rattle.ve_json.specs.Answers.{reply_of, AnswerCites};
@@ -31,7 +31,7 @@ pub fn html<'a, 'b>(
     requires cites { All (CitesWell doc.store.now) doc.list.now.items }
     requires refers { all_refer (page_items doc) ≡ true }
     requires first { IsFirst doc.store.now origins.now }
-    requires known { AreAlike doc.list.now.items origins.now.items known.alike }
+    requires known { AreKnown doc.list.now.items origins.now.items known }
     ensures reply { IfOk result (λ answer.
         reply_of answer
         ≡ html_reply (opened_over doc.entry.store.now origins.entry.now)

@@ -1,8 +1,9 @@
 // What is known of a site's list beside the one that was opened.
-ghost use Rattle.std.specs.Prelude.{◌≡◌, ◌≤◌, ◌<◌, IfSome, length};
+ghost use Rattle.std.specs.Prelude.{◌≡◌, ◌≤◌, ◌<◌, IfSome, List, length};
 ghost use Rattle.model_change.specs.Replay.{flattened};
+ghost use Rattle.model_items.specs.declared.item.Item.{Item as Cited};
 ghost use Rattle.model_site.specs.Site.{entries_of};
-ghost use Rattle.ve_origin.specs.Known.{AreAlike};
+ghost use Rattle.ve_origin.specs.Known.{AreAlike, AreKnown};
 ghost use Rattle.ve_site.specs.Ends.{LeaveEnds, least_ends, whole_list};
 ghost use Rattle.ve_sites.specs.Shared.{site_at, sites};
 ghost use Rattle.ve_session.specs.Ends.{AgreeAtEnds};
@@ -35,18 +36,22 @@ pub fn ends_within(session: &Sites, k: usize, entries: usize) -> Option<Ends>
     Some(session.ends(k))
 }
 
-/// The longer one of the ends at which two lists agree, as items that are known to be alike.
-fn longer_end(ends: Ends, now: &Linear, first: &Linear) -> Run
+/// The items at the beginning of two lists that agree there.
+fn prefix_of(ends: Ends) -> Run
+    ensures { (now first : List Cited) → AgreeAtEnds ends first now → AreAlike now first result }
+{
+    Run {
+        now: 0,
+        first: 0,
+        count: ends.prefix,
+    }
+}
+
+/// The items at the end of two lists that agree there.
+fn suffix_of(ends: Ends, now: &Linear, first: &Linear) -> Run
     requires { AgreeAtEnds ends first.now.items now.now.items }
     ensures { AreAlike now.now.items first.now.items result }
 {
-    if ends.suffix <= ends.prefix {
-        return Run {
-            now: 0,
-            first: 0,
-            count: ends.prefix,
-        };
-    }
     Run {
         now: now.len() - ends.suffix,
         first: first.len() - ends.suffix,
@@ -57,11 +62,12 @@ fn longer_end(ends: Ends, now: &Linear, first: &Linear) -> Run
 /// What is known of two lists that agree at these ends; nothing, where there are none.
 pub fn known_at(ends: Option<Ends>, now: &Linear, first: &Linear) -> Known
     requires { IfSome ends (λ e. AgreeAtEnds e first.now.items now.now.items) }
-    ensures { AreAlike now.now.items first.now.items result.alike }
+    ensures { AreKnown now.now.items first.now.items result }
 {
     match ends {
         Some(ends) => Known {
-            alike: longer_end(ends, now, first),
+            alike: prefix_of(ends),
+            at_end: suffix_of(ends, now, first),
         },
         None => Known::nothing(),
     }

@@ -4,7 +4,7 @@ ghost use Rattle.model_items.specs.Law.{Lawful};
 ghost use Rattle.model_items.specs.Plain.{plain_list};
 ghost use Rattle.model_page.specs.Editable.{all_refer};
 ghost use Rattle.model_page_write.specs.PageText.{write};
-ghost use Rattle.ve_origin.specs.Known.{AreAlike};
+ghost use Rattle.ve_origin.specs.Known.{AreKnown};
 ghost use Rattle.ve_write.specs.Originals.{opened_over, IsFirst};
 ghost use Rattle.ve_write.specs.Siblings.{AllCite};
 
@@ -60,7 +60,7 @@ pub fn write_knowing<'a>(
     requires refers { all_refer (plain_list store.now list.now.items) ≡ true }
     requires lawful { Lawful (plain_list store.now list.now.items) }
     requires first { IsFirst store.now origins.now }
-    requires known { AreAlike list.now.items origins.now.items known.alike }
+    requires known { AreKnown list.now.items origins.now.items known }
     ensures ok { OnOk result (
         out.new
         ≡ out.old

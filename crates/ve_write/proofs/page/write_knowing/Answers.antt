@@ -7,7 +7,7 @@ pub put_list-requires-clause-lent : goal.put_list-requires-clause-lent
 put_list-requires-clause-lent c = record { first = c.requires.first; lawful = c.requires.lawful; rows = c.in_ok-refs.ensures }
 
 pub put_list-requires-clause-known : goal.put_list-requires-clause-known
-put_list-requires-clause-known c = record { alike = c.requires.known }
+put_list-requires-clause-known c = record { items = c.requires.known }
 
 pub returns-clause-utf8 : goal.returns-clause-utf8
 returns-clause-utf8 c =

@@ -11,7 +11,7 @@ use Rattle.ve_offsets.specs.Docs.{page_items}
 use Rattle.ve_origin.specs.Origins.{first_read, AreRows, FirstRead}
 use Rattle.ve_session.specs.Asked.{reply_and_world}
 use Rattle.ve_session.specs.Opened.{lent_of, page_on, world_on, OnPage}
-use Rattle.ve_origin.specs.Known.{AreAlike}
+use Rattle.ve_origin.specs.Known.{AreKnown}
 use Rattle.ve_session.specs.Ends.{AgreeAtEnds}
 use Rattle.ve_site.specs.declared.ends.Ends.{Ends}
 use Rattle.ve_session.proofs.HtmlLemmas.{ends_agree, first_there, first_again, html_is, items_at, untouched_at}
@@ -95,7 +95,7 @@ html-requires-clause-known c =
     let lent : c.new-origins.result ≡ o =
     c.new-origins.ensures ∙ ap (λ text. first_read text i.body i.rows c.first.result.now.items i.first_refs) c.as_str.ensures.bytes
     ∙ ap (λ (items : List Item). lent_of i.text i.body i.rows items i.first_refs) c.first.ensures.same in
-    subst (λ (items : List Item). AreAlike c.doc_at-doc.result.list.now.items items c.known_at-known.result.alike)
+    subst (λ (items : List Item). AreKnown c.doc_at-doc.result.list.now.items items c.known_at-known.result)
     (c.first-2.ensures.same ∙ sym (ap (λ (x : FirstRead). x.items) lent)) c.known_at-known.ensures
 
 pub is_first_after-requires : goal.is_first_after-requires
@@ -106,6 +106,6 @@ is_first_after-requires c =
     c.new-origins.ensures ∙ ap (λ text. first_read text i.body i.rows c.first.result.now.items i.first_refs) c.as_str.ensures.bytes
     ∙ ap (λ (items : List Item). lent_of i.text i.body i.rows items i.first_refs) c.first.ensures.same in
     record {
-      known = subst (λ (items : List Item). AreAlike c.doc_at-doc.result.list.now.items items c.known_at-known.result.alike)
+      known = subst (λ (items : List Item). AreKnown c.doc_at-doc.result.list.now.items items c.known_at-known.result)
           (c.first-2.ensures.same ∙ sym (ap (λ (x : FirstRead). x.items) lent)) c.known_at-known.ensures;
     }
