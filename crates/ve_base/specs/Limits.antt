@@ -62,4 +62,4 @@ abbrev pub max_block : ℕ
 max_block = 512
 
 abbrev pub filled_block : ℕ
-filled_block = 320
+filled_block = 448

@@ -33,4 +33,4 @@ pub const MAX_BATCH: usize = 1_000;
 pub const MAX_BLOCK: usize = 512;
 /// How many items a block of the flat list gets where it is made, so that later ones find room in
 /// it.
-pub const FILLED_BLOCK: usize = 320;
+pub const FILLED_BLOCK: usize = 448;

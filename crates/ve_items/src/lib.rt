@@ -12,7 +12,7 @@
 //! Definitions, in reading order: `ItemList` is the view of a list, and `spliced` the result of a
 //! splice. `AreBlocks` is the rule of the blocks; `StandsAt`, `MayChange` and `MayPart` are
 //! positions in them. `Pile` is the view of tables and stacks of blocks, `IsReady` the capacity
-//! that a list keeps beside its blocks. The sizes 512 and 320 of a block are `MAX_BLOCK` and
+//! that a list keeps beside its blocks. The sizes 512 and 448 of a block are `MAX_BLOCK` and
 //! `FILLED_BLOCK` of ve_base.
 //!
 //! `spare` falls by as many items as a splice puts in, so several splices follow one `reserve`. A

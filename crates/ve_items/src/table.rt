@@ -181,11 +181,15 @@ impl Table {
     }
 
     /// The block, and the position in it, where `more` items can be put in if its second half goes
-    /// into a block of its own. No other block changes. None where there is no such block.
+    /// into a block of its own. No other block changes. None where there is no such block, and at
+    /// the list's end: what is appended gets blocks of its own.
     pub fn place_to_part(&self, at: usize, more: usize) -> Option<(usize, usize)>
         requires { at ≤ length (joined self.now.blocks) }
         ensures { IfSome result (λ place. MayPart self.now.blocks at more place.0 place.1) }
     {
+        if at == self.items() {
+            return None;
+        }
         let (k, offset) = self.touched(at)?;
         if more > MAX_BLOCK || self.size(k) > MAX_BLOCK {
             return None;

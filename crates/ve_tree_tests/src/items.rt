@@ -53,8 +53,8 @@ const CASES: [(usize, usize, usize, usize, Option<usize>); 5] = [
     (512, 0, 0, 1, Some(512)),
     (512, 512, 1, 2, None),
     // many that come at once leave room in each block
-    (640, 0, 0, 2, Some(320)),
-    (640, 0, 192, 2, Some(512)),
+    (640, 0, 0, 2, Some(448)),
+    (640, 0, 64, 2, Some(512)),
 ];
 
 #[test]

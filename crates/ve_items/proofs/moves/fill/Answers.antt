@@ -7,7 +7,7 @@ loop-done-preserved c =
     let inv = c.loop-done.invariant in
     let put = c.put.ensures in
     let some : c.loop-done.done < length c.args.items.now = search rules in
-    let step : c.min.result ≡ min (length c.args.items.now - c.loop-done.done) 320 = search rules in
+    let step : c.min.result ≡ min (length c.args.items.now - c.loop-done.done) 448 = search rules in
     record {
       rule = put.rule;
       done = omega arith;
