@@ -1,5 +1,6 @@
 pub mod NormalLemmas
 pub mod NotedLemmas
+pub mod OrderLemmas
 pub mod FirstNamesLemmas
 pub mod RangeLemmas
 pub mod TurnedLemmas
