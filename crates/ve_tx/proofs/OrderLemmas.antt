@@ -1,12 +1,12 @@
 -- Numbers in a row that is kept in chunks.
-use Rattle.std.proofs.Common.{◌≡◌, ◌≤◌, ◌<◌, ◌+◌, ◌-◌, ◌^◌, ℕ, zero, suc, Bool, true, false, ◌||◌, cond, min, List, [], ◌∷◌, ◌++◌, length, take, drop, get_or, Option, None, Some, Contains, refl, sym, ap, ◌∙◌, subst, inl, inr, append_assoc, arith, length-append, take-append-drop}
+use Rattle.std.proofs.Common.{◌≡◌, ◌≤◌, ◌<◌, ◌+◌, ◌-◌, ◌^◌, ℕ, zero, suc, Bool, true, false, ◌||◌, cond, min, List, [], ◌∷◌, ◌++◌, length, take, drop, get_or, Option, None, Some, Contains, refl, sym, ap, ◌∙◌, subst, inl, inr, arith, length-append, take-append-drop}
 use Rattle.std.specs.Prelude.{◌==◌, slice_get, slice_set}
 use Rattle.std.specs.List.{remove}
 use Rattle.std.specs.Option.{option_map}
-use Rattle.std.proofs.lemmas.Bool.{cond-true, cond-false, eqb-true, eqb-false, eq-eqb, ne_eqb, cases_eq, cases_Bool, or_cases, or_parts, or_from, or_left, or_right, false_from_ne_true, true_from_ne_false, both_ways}
-use Rattle.std.proofs.lemmas.List.{take_more, take_all, set-get_or, get_or_past, get_or-set_same, get_or-set_other, length-set, take_min, drop_min, take_at, drop_at}
+use Rattle.std.proofs.lemmas.Bool.{cond-true, cond-false, eqb-true, eqb-false, eq-eqb, ne_eqb, cases_eq, cases_Bool, or_cases, or_parts, or_from, or_left, or_right, false_from_ne_true, both_ways}
+use Rattle.std.proofs.lemmas.List.{take_more, take_all, set-get_or, get_or_past, get_or-set_other, length-set, take_min, drop_min, take_at}
 use Rattle.ve_items.specs.Blocks.{joined}
-use Rattle.ve_items.proofs.Blocks.{joined_push, joined_next}
+use Rattle.ve_items.proofs.Blocks.{joined_next}
 use Rattle.ve_tx.specs.Order.{place_of, without, counted, stands, EachOnce, AtHome, IsKept, AreBelow, settled, all_settled}
 
 -- ---- whether a number stands in a row
@@ -323,9 +323,9 @@ settled_own homes n [] x below h = cc
 settled_own homes n (y ∷ ys) x below h = elim (cases_Bool (stands x ys)) [
   | inl t ↦ settled_own (slice_set homes y n) n ys x (subst (AreBelow ys) (sym (length-set homes y n)) (below_rest y ys (length homes) below)) t
   | inr f ↦
-    let same : y ≡ x = elim (or_cases (y == x) (stands x ys) h) [ inl e ↦ eqb-true y x e | inr t ↦ absurd (both_ways (stands x ys) f t) ] in
-    settled_other (slice_set homes y n) n ys x f
-    ∙ subst (λ z. slice_get (slice_set homes y n) z ≡ Some n) same (get_set_same homes y n (below_first y ys (length homes) below))
+      let same : y ≡ x = elim (or_cases (y == x) (stands x ys) h) [ inl e ↦ eqb-true y x e | inr t ↦ absurd (both_ways (stands x ys) f t) ] in
+      settled_other (slice_set homes y n) n ys x f
+      ∙ subst (λ z. slice_get (slice_set homes y n) z ≡ Some n) same (get_set_same homes y n (below_first y ys (length homes) below))
 ]
 
 all_settled_other : (homes : List ℕ) (n : ℕ) (chunks : List (List ℕ)) (x : ℕ) → stands x (joined chunks) ≡ false → slice_get (all_settled homes n chunks) x ≡ slice_get homes x
@@ -405,16 +405,16 @@ home_put chunks homes n p number home lt within new k x t =
     let made = take p (get_or chunks n []) ++ number ∷ drop p (get_or chunks n []) in
     elim (cases_eq number x) [
       | inl same ↦
-        elim (cases_eq k n) [
-          | inl here ↦ subst (λ y. slice_get (slice_set homes number n) y ≡ Some k) same (get_set_same homes number n within ∙ ap Some (sym here))
-          | inr ne ↦
-            let there : stands x (get_or chunks k []) ≡ true = subst (λ c. stands x c ≡ true) (get_or-set_other chunks n k made [] ne) t in
-            absurd (both_ways (stands x (joined chunks)) (subst (λ y. stands y (joined chunks) ≡ false) same new) (somewhere x chunks k there))
-        ]
+          elim (cases_eq k n) [
+            | inl here ↦ subst (λ y. slice_get (slice_set homes number n) y ≡ Some k) same (get_set_same homes number n within ∙ ap Some (sym here))
+            | inr ne ↦
+                let there : stands x (get_or chunks k []) ≡ true = subst (λ c. stands x c ≡ true) (get_or-set_other chunks n k made [] ne) t in
+                absurd (both_ways (stands x (joined chunks)) (subst (λ y. stands y (joined chunks) ≡ false) same new) (somewhere x chunks k there))
+          ]
       | inr other ↦
-        let before : stands x made ≡ true → stands x (get_or chunks n []) ≡ true =
+          let before : stands x made ≡ true → stands x (get_or chunks n []) ≡ true =
           λ h. sym (ap (λ b. b || stands x (get_or chunks n [])) (ne_eqb number x other)) ∙ sym (stands_put x number (get_or chunks n []) p) ∙ h in
-        get_set_other homes number x n other ∙ home k x (get_or_set_cases chunks n k x made before t)
+          get_set_other homes number x n other ∙ home k x (get_or_set_cases chunks n k x made before t)
     ]
 
 -- ---- what the code reads
@@ -447,9 +447,9 @@ pub taken_row : (x : ℕ) (chunks : List (List ℕ)) (homes : List ℕ) (n : ℕ
 taken_row x chunks homes n home is = elim (cases_Bool (stands x (get_or chunks n []))) [
   | inl t ↦ joined_without x chunks n (alone chunks homes x n home is) t
   | inr f ↦
-    ap (λ c. joined (slice_set chunks n c)) (without_none x (get_or chunks n []) f)
-    ∙ ap joined (set-get_or chunks n [])
-    ∙ sym (without_none x (joined chunks) (not_at_home chunks homes x n home is f))
+      ap (λ c. joined (slice_set chunks n c)) (without_none x (get_or chunks n []) f)
+      ∙ ap joined (set-get_or chunks n [])
+      ∙ sym (without_none x (joined chunks) (not_at_home chunks homes x n home is f))
 ]
 
 pub taken_stood : (x : ℕ) (chunks : List (List ℕ)) (homes : List ℕ) (n : ℕ) → AtHome chunks homes → slice_get homes x ≡ Some n →
@@ -489,8 +489,8 @@ pub kept_small : (chunks seen : List (List ℕ)) (homes : List ℕ) (len : ℕ) 
 kept_small chunks seen homes len kept is = let same = kept_length chunks seen homes len kept is in let small = kept.small in omega arith
 
 -- a slice that was lent is the whole list again
-pub given_back : {X : Type 0} (new old rest : List X) (size n : ℕ) → size ≡ n → length new ≡ size → take n (new ++ rest) ≡ new
-given_back new old rest size n is same = take_at new rest n (same ∙ is)
+pub given_back : {X : Type 0} (new rest : List X) (size n : ℕ) → size ≡ n → length new ≡ size → take n (new ++ rest) ≡ new
+given_back new rest size n is same = take_at new rest n (same ∙ is)
 
 pub first_below : (chunks seen : List (List ℕ)) (row given : List ℕ) (count : ℕ) → row ≡ counted 0 count → joined chunks ≡ row → seen ≡ chunks → given ≡ row → AreBelow (joined seen) (length given)
 first_below chunks seen row given count is all same lent x t =

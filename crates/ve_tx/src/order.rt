@@ -282,12 +282,7 @@ fn reach(homes: &mut Vec<usize>, number: usize) -> Result<(), Memory>
 }
 
 /// Puts a number in at a position of the row, and gives it its home. An `Err` changes nothing.
-fn insert(
-    chunks: &mut [Chunk],
-    homes: &mut [usize],
-    at: usize,
-    number: usize,
-) -> Result<(), Memory>
+fn insert(chunks: &mut [Chunk], homes: &mut [usize], at: usize, number: usize) -> Result<(), Memory>
     requires some { 0 < length chunks.old }
     requires within { number < length homes.old }
     requires home { AtHome chunks.old homes.old }
@@ -305,7 +300,7 @@ fn insert(
 
 /// Numbers in a row, each at most once. Each has a home, the chunk where it stands, so that it is
 /// looked for in that one alone.
-pub struct Order {
+pub(crate) struct Order {
     chunks: Vec<Chunk>,
     // the index of each number's chunk; of a number that stands nowhere it says nothing
     homes: Vec<usize>,
@@ -314,7 +309,11 @@ pub struct Order {
 
 impl Drop for Order {
     fn drop(self) {
-        let Order { chunks, homes, len: _ } = self;
+        let Order {
+            chunks,
+            homes,
+            len: _,
+        } = self;
         drop(chunks);
         drop(homes);
     }
@@ -376,10 +375,21 @@ impl Order {
         let Some(len) = self.len.checked_add(1) else {
             return Err(Memory);
         };
-        make_room(alloc, &mut self.chunks, self.homes.as_mut_slice(), at, chunk_size(len))?;
+        make_room(
+            alloc,
+            &mut self.chunks,
+            self.homes.as_mut_slice(),
+            at,
+            chunk_size(len),
+        )?;
         begin(alloc, &mut self.chunks)?;
         reach(&mut self.homes, number)?;
-        insert(self.chunks.as_mut_slice(), self.homes.as_mut_slice(), at, number)?;
+        insert(
+            self.chunks.as_mut_slice(),
+            self.homes.as_mut_slice(),
+            at,
+            number,
+        )?;
         self.len = len;
         Ok(())
     }

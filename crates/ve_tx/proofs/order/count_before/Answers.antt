@@ -1,4 +1,4 @@
-use Rattle.std.proofs.Common.{◌≡◌, ◌+◌, ◌<◌, ◌≤◌, ◌^◌, [], length, take, ap, ◌∙◌, arith, sym, length-append}
+use Rattle.std.proofs.Common.{[], length, ap, ◌∙◌, arith}
 use Rattle.std.proofs.lemmas.List.{get_or_read}
 use Rattle.ve_tx.proofs.OrderLemmas.{before_and_in}
 use Rattle.ve_tx.proofs.order.count_before.Goals as goal

@@ -1,6 +1,6 @@
-use Rattle.std.proofs.Common.{◌≡◌, ◌+◌, ◌<◌, ◌≤◌, length, take, ap, ◌∙◌, arith, []}
+use Rattle.std.proofs.Common.{length, ap, ◌∙◌, []}
 use Rattle.std.proofs.lemmas.List.{get_or_read}
-use Rattle.ve_tx.proofs.OrderLemmas.{part_within, part_at_end, next_part}
+use Rattle.ve_tx.proofs.OrderLemmas.{part_within}
 use Rattle.ve_tx.proofs.order.place_at.Goals as goal
 
 pub returns-then-left-len-clause-place : goal.returns-then-left-len-clause-place

@@ -1,4 +1,4 @@
-use Rattle.std.proofs.Common.{◌≡◌, ◌+◌, ◌<◌, ◌≤◌, ◌^◌, length, get_or, take, None, Some, [], ap, ◌∙◌, arith, sym}
+use Rattle.std.proofs.Common.{◌≡◌, ◌+◌, length, get_or, None, Some, [], ap, ◌∙◌, arith, sym}
 use Rattle.std.proofs.lemmas.List.{get_or_read}
 use Rattle.ve_items.specs.Blocks.{joined}
 use Rattle.ve_tx.specs.Order.{place_of}

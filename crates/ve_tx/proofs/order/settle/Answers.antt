@@ -1,4 +1,4 @@
-use Rattle.std.proofs.Common.{◌≡◌, ◌<◌, ◌≤◌, length, arith, subst, sym}
+use Rattle.std.proofs.Common.{arith}
 use Rattle.ve_tx.proofs.OrderLemmas.{next_below}
 use Rattle.ve_tx.proofs.order.settle.Goals as goal
 

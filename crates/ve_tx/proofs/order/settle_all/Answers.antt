@@ -1,4 +1,4 @@
-use Rattle.std.proofs.Common.{◌≡◌, ◌<◌, ◌≤◌, length, arith, ◌∙◌, sym, []}
+use Rattle.std.proofs.Common.{◌∙◌, []}
 use Rattle.std.proofs.lemmas.List.{get_or_read}
 use Rattle.ve_tx.proofs.OrderLemmas.{chunk_below}
 use Rattle.ve_tx.proofs.order.settle_all.Goals as goal

@@ -1,4 +1,4 @@
-use Rattle.std.proofs.Common.{◌≡◌, ◌≤◌, ◌<◌, get_or, [], ap, ◌∙◌, sym, subst}
+use Rattle.std.proofs.Common.{get_or, [], ap, ◌∙◌, sym, subst}
 use Rattle.std.specs.Prelude.{slice_set}
 use Rattle.std.proofs.lemmas.List.{get_or_default}
 use Rattle.ve_items.specs.Blocks.{joined}

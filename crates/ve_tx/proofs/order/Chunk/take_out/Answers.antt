@@ -1,4 +1,4 @@
-use Rattle.std.proofs.Common.{◌≡◌, sym, ap, ◌∙◌, subst, None, Some}
+use Rattle.std.proofs.Common.{◌≡◌, sym, ap, ◌∙◌, None, Some}
 use Rattle.ve_tx.specs.Order.{without, stands, place_of}
 use Rattle.ve_tx.proofs.OrderLemmas.{found, missing, removed, without_none}
 use Rattle.ve_tx.proofs.order.Chunk.take_out.Goals as goal

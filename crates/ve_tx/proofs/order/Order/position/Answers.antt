@@ -1,4 +1,3 @@
-use Rattle.std.proofs.Common.{◌≡◌, ◌<◌, ◌^◌, length, arith}
 use Rattle.ve_tx.proofs.OrderLemmas.{kept_small}
 use Rattle.ve_tx.proofs.order.Order.position.Goals as goal
 
