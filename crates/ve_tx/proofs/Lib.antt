@@ -23,3 +23,4 @@ pub mod FilledLemmas
 pub mod EntryExamples
 pub mod CitesLemmas
 mod ApplyExamples
+mod OrderExamples

@@ -31,7 +31,8 @@ EachOnce (n ∷ rest) = (stands n rest ≡ false) × EachOnce rest
 -- a number that stands in a chunk has the index of that chunk as its home
 abbrev pub AtHome : (chunks : List (List ℕ)) (homes : List ℕ) → Type 0
 AtHome chunks homes =
-    (n number : ℕ) → stands number (slice_index_or chunks n []) ≡ true → slice_get homes number ≡ Some n
+    (n number : ℕ) → stands number (slice_index_or chunks n []) ≡ true
+    → slice_get homes number ≡ Some n
 
 -- what an order is kept as
 pub record IsKept (chunks : List (List ℕ)) (homes : List ℕ) (len : ℕ) : Type 0 where

@@ -259,7 +259,8 @@ fn make_room(
 /// Sees that there is a chunk.
 fn begin(alloc: Global, chunks: &mut Vec<Chunk>) -> Result<(), Memory>
     ensures row { joined chunks.new.items ≡ joined chunks.old.items }
-    ensures home { (homes : List ℕ) → AtHome chunks.old.items homes → AtHome chunks.new.items homes }
+    ensures home { (homes : List ℕ) → AtHome chunks.old.items homes
+        → AtHome chunks.new.items homes }
     ensures some { OnOk result (0 < length chunks.new.items) }
 {
     if !chunks.is_empty() {
