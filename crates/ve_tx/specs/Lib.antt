@@ -25,6 +25,7 @@ pub mod Parcel
 pub mod ByValue
 pub mod Copied
 pub mod Taken
+pub mod Changing
 pub mod Checked
 pub mod Making
 pub mod Spliced

@@ -1,16 +1,15 @@
-// One attribute of an opening: whether it may be changed, and the head that then comes of it.
-ghost use Rattle.std.specs.Prelude.{◌≡◌, ◌≤◌, ◌↔◌, length, drop, false, None, Some, All, IfOk, IsSome, IsTrue, OnOk};
+// One attribute of an opening: whether it may be changed, and its change in a list.
+ghost use Rattle.std.specs.Prelude.{◌≡◌, ◌≤◌, ◌↔◌, length, drop, None, Some, All, IsSome, IsTrue, OnOk};
 ghost use Rattle.std.specs.Str.{chars};
 ghost use Rattle.model_items.specs.Plain.{plain, plain_list, head_in, value_at, CitesHead, CitesWell};
 ghost use Rattle.model_items.specs.Same.{text_same, option_same};
 ghost use Rattle.model_change.specs.Attributes as attributes;
-ghost use Rattle.model_change.specs.Attributes.{value_of, position_of, attr_added, attr_replaced, attr_removed, attrs_changed};
+ghost use Rattle.model_change.specs.Attributes.{value_of, position_of, attr_added, attr_replaced, attr_removed};
 ghost use Rattle.model_change.specs.Fault.{first_allows};
 ghost use Rattle.ve_tx.specs.Checked.{change_of};
 
 use crate::normal::same_text;
-use std::alloc::Global;
-use ve_base::{Attr, Attrs, Head, Memory, Text, TryCopy, Value, ValueId};
+use ve_base::{Attr, Memory, Text, Value, ValueId};
 use ve_items::{Item, Linear};
 use ve_kinds::is_element;
 use ve_store::Store;
@@ -104,7 +103,7 @@ pub fn position(attrs: &[Attr], name: &Text) -> usize
 }
 
 /// Gives the attribute of this name another value.
-fn set_value(list: &mut Vec<Attr>, name: &Text, value: Text)
+pub fn set_value(list: &mut Vec<Attr>, name: &Text, value: Text)
     requires { IsSome (value_of name.now list.old.items) }
     ensures { list.new.items ≡ attr_replaced name.now value list.old.items }
 {
@@ -113,7 +112,7 @@ fn set_value(list: &mut Vec<Attr>, name: &Text, value: Text)
 }
 
 /// Takes the attribute of this name out.
-fn take_out(list: &mut Vec<Attr>, name: &Text)
+pub fn take_out(list: &mut Vec<Attr>, name: &Text)
     requires { IsSome (value_of name.now list.old.items) }
     ensures { list.new.items ≡ attr_removed name.now list.old.items }
 {
@@ -122,7 +121,7 @@ fn take_out(list: &mut Vec<Attr>, name: &Text)
 }
 
 /// Puts an attribute in at the position kept for it, or else at the end.
-fn put_in(list: &mut Vec<Attr>, kept: Option<usize>, attr: Attr) -> Result<(), Memory>
+pub fn put_in(list: &mut Vec<Attr>, kept: Option<usize>, attr: Attr) -> Result<(), Memory>
     ensures { OnOk result (list.new.items ≡ attr_added kept attr list.old.items) }
 {
     match kept {
@@ -130,56 +129,4 @@ fn put_in(list: &mut Vec<Attr>, kept: Option<usize>, attr: Attr) -> Result<(), M
         None => list.push(attr)?,
     }
     Ok(())
-}
-
-/// Takes one attribute of a list from its present value to another.
-fn change(
-    alloc: Global,
-    list: &mut Vec<Attr>,
-    name: &Text,
-    kept: Option<usize>,
-    from: &Option<Text>,
-    to: &Option<Text>,
-) -> Result<(), Memory>
-    requires { value_of name.now list.old.items ≡ from.now }
-    ensures { OnOk result (
-        list.new.items ≡ attrs_changed name.now kept from.now to.now list.old.items) }
-{
-    match (from, to) {
-        (None, None) => Ok(()),
-        (None, Some(value)) => {
-            let attr = Attr {
-                name: name.copy(alloc)?,
-                value: value.copy(alloc)?,
-            };
-            put_in(list, kept, attr)
-        }
-        (Some(_), Some(value)) => {
-            set_value(list, name, value.copy(alloc)?);
-            Ok(())
-        }
-        (Some(_), None) => {
-            take_out(list, name);
-            Ok(())
-        }
-    }
-}
-
-/// The attributes after one of them went from its present value to another. One that comes is put
-/// at the position kept for it, or at the end. No other one is copied.
-pub fn changed(
-    alloc: Global,
-    attrs: Attrs,
-    name: &Text,
-    kept: Option<usize>,
-    from: &Option<Text>,
-    to: &Option<Text>,
-) -> Result<Attrs, Memory>
-    requires present { value_of name.now attrs ≡ from.now }
-    requires free { attributes.is_reserved name.now ≡ false }
-    ensures { IfOk result (λ made. made ≡ attrs_changed name.now kept from.now to.now attrs) }
-{
-    let mut list = attrs.into_vec(alloc)?;
-    change(alloc, &mut list, name, kept, from, to)?;
-    Ok(Attrs::from_vec(list))
 }

@@ -14,12 +14,12 @@ ghost use Rattle.ve_tx.specs.Gathered.{gathered};
 ghost use Rattle.ve_tx.specs.Operation.{by_value, with_position, with_positions};
 
 use crate::Op;
-use crate::attributes::position;
+use crate::changing::ChangingHead;
 use crate::gathered::Gathered;
 use crate::inverse::position_at;
-use crate::making::{next_head, present_head};
+use crate::making::present_head;
 use std::alloc::Global;
-use ve_base::{Head, Memory, Text, TryCopy};
+use ve_base::{Memory, Text, TryCopy};
 use ve_items::Linear;
 use ve_store::Store;
 
@@ -27,7 +27,7 @@ use ve_store::Store;
 #[derive(Drop)]
 struct Cursor {
     at: usize,
-    head: Option<Head>,
+    head: Option<ChangingHead>,
 }
 
 /// Past so many items. A changed head stays with its item.
@@ -49,7 +49,7 @@ fn past(cursor: Cursor, count: usize) -> Cursor
 /// The position to keep: that of the attribute, where it is removed, and else the one that is kept
 /// already.
 fn position_to_keep(
-    head: &Head,
+    head: &ChangingHead,
     name: &Text,
     kept: Option<usize>,
     from: &Option<Text>,
@@ -61,7 +61,7 @@ fn position_to_keep(
         ≡ position_kept from.now to.now name.now kept (item_with_head (Some head.now) item) }
 {
     match (from, to) {
-        (Some(_), None) => Some(position(head.attrs.as_slice(), name)),
+        (Some(_), None) => Some(head.position(name)),
         (Some(_), Some(_)) => kept,
         (None, _) => kept,
     }
@@ -93,7 +93,7 @@ fn step(
             let Cursor { at, head } = cursor;
             let present = present_head(alloc, store, list.get(at), head)?;
             let position = position_to_keep(&present, name, kept, from, to);
-            let next = next_head(alloc, present, name, kept, from, to)?;
+            let next = present.changed(alloc, name, kept, from, to)?;
             Ok((
                 Cursor {
                     at,

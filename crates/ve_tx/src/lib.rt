@@ -39,6 +39,7 @@
 
 mod attributes;
 mod change;
+mod changing;
 mod check;
 mod copies;
 mod draft;

@@ -1,22 +1,19 @@
 // The splices of a change, made in one pass.
-ghost use Rattle.std.specs.Prelude.{◌≡◌, ◌≤◌, ◌<◌, ◌-◌, ◌++◌, length, take, drop, true, false, Some, All, IfOk, OnOk, OnErr, is_some, slice_get};
+ghost use Rattle.std.specs.Prelude.{◌≡◌, ◌≤◌, ◌<◌, ◌-◌, ◌++◌, length, take, drop, true, Some, All, IfOk, OnOk, OnErr, is_some, slice_get};
 ghost use Rattle.ve_base.specs.Limits.{max_total_length};
 ghost use Rattle.ve_base.specs.declared.value.Value.TheVariants as value;
 ghost use Rattle.model_items.specs.Plain.{plain, plain_list, head_in, value_at, CitesHead, CitesWell};
-ghost use Rattle.model_change.specs.Attributes as attributes;
-ghost use Rattle.model_change.specs.Attributes.{value_of};
 ghost use Rattle.model_change.specs.Store.{fill, head_cited, head_if};
 ghost use Rattle.ve_tx.specs.Applied.{AppliesTo, IsOverActive, MakesEdited, store_after};
 ghost use Rattle.ve_tx.specs.Changed.{brought_by, brought_count};
-ghost use Rattle.ve_tx.specs.Checked.{change_of};
 ghost use Rattle.ve_tx.specs.Cites.{TxCites};
-ghost use Rattle.ve_tx.specs.Making.{Extends, item_with_head, headed_from, MayHead, IsHeadChanged, IsHeaded, IsSettled};
+ghost use Rattle.ve_tx.specs.Making.{Extends, item_with_head, headed_from, MayHead, IsHeaded, IsSettled};
 ghost use Rattle.ve_tx.specs.Normal.{total_size};
 ghost use Rattle.ve_tx.specs.Operation.{by_value, with_positions, IsNormal};
 ghost use Rattle.ve_tx.specs.Spliced.{AllCite, LieBetween, come_count};
 
 use crate::Op;
-use crate::attributes::changed;
+use crate::changing::ChangingHead;
 use crate::inverse::position_at;
 use crate::splice::Splice;
 use std::alloc::Global;
@@ -43,8 +40,8 @@ pub fn present_head(
     alloc: Global,
     store: &Store,
     item: Item,
-    head: Option<Head>,
-) -> Result<Head, Memory>
+    head: Option<ChangingHead>,
+) -> Result<ChangingHead, Memory>
     requires { CitesWell store.now item }
     ensures { IfOk result (λ present.
         item_with_head (Some present) (plain store.now item)
@@ -53,41 +50,11 @@ pub fn present_head(
     if let Some(head) = head {
         return Ok(head);
     }
-    match item {
-        Item::Opening { head, .. } => head_copy(alloc, store, head),
-        Item::Char { .. } | Item::Closing { .. } => Ok(Head::empty(alloc)),
-    }
-}
-
-/// The head after one attribute operation more.
-pub fn next_head(
-    alloc: Global,
-    head: Head,
-    name: &Text,
-    kept: Option<usize>,
-    from: &Option<Text>,
-    to: &Option<Text>,
-) -> Result<Head, Memory>
-    requires present { value_of name.now head.attrs ≡ from.now }
-    requires free { attributes.is_reserved name.now ≡ false }
-    ensures { IfOk result (λ next.
-        IsHeadChanged (change_of name.now from.now to.now kept) head next) }
-{
-    let Head {
-        tag,
-        attrs,
-        raw,
-        reference,
-        owner,
-    } = head;
-    let attrs = changed(alloc, attrs, name, kept, from, to)?;
-    Ok(Head {
-        tag,
-        attrs,
-        raw,
-        reference,
-        owner,
-    })
+    let cited = match item {
+        Item::Opening { head, .. } => head_copy(alloc, store, head)?,
+        Item::Char { .. } | Item::Closing { .. } => Head::empty(alloc),
+    };
+    ChangingHead::of(alloc, cited)
 }
 
 /// The position of a head in the store, which takes it where it is new; one that says nothing is
@@ -139,7 +106,7 @@ fn settle(
     list: &Linear,
     store: &mut Store,
     at: usize,
-    head: Option<Head>,
+    head: Option<ChangingHead>,
 ) -> Result<(), Memory>
     requires list { All (CitesWell store.old) list.now.items }
     requires within { is_some head ≡ true → at < length list.now.items }
@@ -158,6 +125,7 @@ fn settle(
         return Ok(());
     };
     let item = list.get(at);
+    let head = head.finish(alloc)?;
     let id = cited(store, head)?;
     let mut items = Items::new(alloc);
     items.push(with_head(item, id))?;
@@ -232,7 +200,7 @@ pub fn new_splices(
             }
             Op::Attribute { name, from, to } => {
                 let present = present_head(alloc, store, list.get(at), head)?;
-                let next = next_head(alloc, present, name, position_at(kept, i), from, to)?;
+                let next = present.changed(alloc, name, position_at(kept, i), from, to)?;
                 head = Some(next);
             }
         }

@@ -1,13 +1,13 @@
 use Rattle.ve_tx.proofs.FilledLemmas.{allowed_here, passed_here, filled_here}
 use Rattle.ve_tx.proofs.filled.step.Goals as goal
 
-pub next_head-requires-clause-present : goal.next_head-requires-clause-present
-next_head-requires-clause-present c =
+pub changed-requires-clause-present : goal.changed-requires-clause-present
+changed-requires-clause-present c =
     (allowed_here c.args.store.now c.args.list.now.items c.args.cursor.at c.args.cursor.head c.get.result c.in_ok-present-in-Attribute.present c.args.op.now c.args.kept c.in-Attribute.is
     c.get.ensures c.in_ok-present-in-Attribute.ensures c.requires.allowed).1
 
-pub next_head-requires-clause-free : goal.next_head-requires-clause-free
-next_head-requires-clause-free c =
+pub changed-requires-clause-free : goal.changed-requires-clause-free
+changed-requires-clause-free c =
     (allowed_here c.args.store.now c.args.list.now.items c.args.cursor.at c.args.cursor.head c.get.result c.in_ok-present-in-Attribute.present c.args.op.now c.args.kept c.in-Attribute.is
     c.get.ensures c.in_ok-present-in-Attribute.ensures c.requires.allowed).2
 

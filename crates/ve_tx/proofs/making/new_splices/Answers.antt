@@ -48,15 +48,15 @@ pub present_head-requires : goal.present_head-requires
 present_head-requires c = stage-cites c.args.store.now c.args.ops.now c.args.kept.now c.args.list.now.items c.requires.list c.requires.cites c.requires.normal c.requires.applies
     c.loop-i.store c.loop-i.splices.items c.loop-i.at c.loop-i.head c.loop-i.i c.loop-i.invariant c.get.result c.get.ensures
 
-pub next_head-requires-clause-present : goal.next_head-requires-clause-present
-next_head-requires-clause-present c =
+pub changed-requires-clause-present : goal.changed-requires-clause-present
+changed-requires-clause-present c =
     (stage-allowed c.args.store.now c.args.ops.now c.args.kept.now c.args.list.now.items c.requires.list c.requires.cites c.requires.normal c.requires.applies
     c.loop-i.store c.loop-i.splices.items c.loop-i.at c.loop-i.head c.loop-i.i c.loop-i.invariant
     c.index-ops-i.result c.loop-i-test.true c.index-ops-i.is c.in-Attribute.name c.in-Attribute.from c.in-Attribute.to c.get.result c.in_ok-present-in-Attribute.present c.in-Attribute.is c.get.ensures
     c.in_ok-present-in-Attribute.ensures).0
 
-pub next_head-requires-clause-free : goal.next_head-requires-clause-free
-next_head-requires-clause-free c =
+pub changed-requires-clause-free : goal.changed-requires-clause-free
+changed-requires-clause-free c =
     (stage-allowed c.args.store.now c.args.ops.now c.args.kept.now c.args.list.now.items c.requires.list c.requires.cites c.requires.normal c.requires.applies
     c.loop-i.store c.loop-i.splices.items c.loop-i.at c.loop-i.head c.loop-i.i c.loop-i.invariant
     c.index-ops-i.result c.loop-i-test.true c.index-ops-i.is c.in-Attribute.name c.in-Attribute.from c.in-Attribute.to c.get.result c.in_ok-present-in-Attribute.present c.in-Attribute.is c.get.ensures

@@ -17,13 +17,14 @@ returns-clause-splices c =
     let item = c.get-item.result in
     let head = c.in-Some.head in
     let new = c.with_head.result in
-    let extends : Extends S S' = extends_by_fill S S' (head_cited head) c.in_ok-id.ensures.store in
+    let stored : S' ≡ fill S (head_cited head) = c.in_ok-id.ensures.store ∙ ap (λ (h : Head). fill S (head_cited h)) c.in_ok-head.ensures in
+    let extends : Extends S S' = extends_by_fill S S' (head_cited head) stored in
     let opening : IsOpening (plain S item) = subst (λ h. MayHead h (plain S item)) c.in-Some.is (c.requires.opening item c.get-item.ensures) in
     let listed : CitesWell S item = All-at S list c.args.at item c.requires.list c.get-item.ensures in
     let same : plain S' item ≡ plain S item = plain-extended S S' extends item listed in
     let is : plain S' new ≡ item_with_head (Some head) (plain S item) =
     c.with_head.ensures.item S' (still_opening (plain S item) (plain S' item) same opening)
-    ∙ ap (λ h. item_with_head (Some h) (plain S' item)) c.in_ok-id.ensures.head ∙ ap (item_with_head (Some head)) same in
+    ∙ ap (λ h. item_with_head (Some h) (plain S' item)) (c.in_ok-id.ensures.head ∙ c.in_ok-head.ensures) ∙ ap (item_with_head (Some head)) same in
     let cites : CitesWell S' new = c.with_head.ensures.cites S' (cites-extended S S' extends item listed) c.in_ok-id.ensures.cites in
     let items : c.push.new.self ≡ new ∷ [] = c.in_ok-push.ensures.ok ∙ ap (λ l. l ++ new ∷ []) c.new-items.ensures in
     let P : List Item → Type 0 = All (CitesWell S') in
@@ -41,5 +42,6 @@ returns-clause-store c =
     let list = c.args.list.now.items in
     let item = c.get-item.result in
     let opening : IsOpening (plain S item) = subst (λ h. MayHead h (plain S item)) c.in-Some.is (c.requires.opening item c.get-item.ensures) in
+    let stored : c.cited.new.store ≡ fill S (head_cited c.in-Some.head) = c.in_ok-id.ensures.store ∙ ap (λ (h : Head). fill S (head_cited h)) c.in_ok-head.ensures in
     let Q : Option Head → Type 0 = λ h. c.cited.new.store ≡ fill S (head_if (is_some h) (headed_from S list c.args.at h)) in
-    subst Q (sym c.in-Some.is) (settled-store S c.cited.new.store list c.args.at item c.in-Some.head c.get-item.ensures opening c.in_ok-id.ensures.store)
+    subst Q (sym c.in-Some.is) (settled-store S c.cited.new.store list c.args.at item c.in-Some.head c.get-item.ensures opening stored)
