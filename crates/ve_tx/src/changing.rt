@@ -28,7 +28,7 @@ enum ChangingAttrs {
 }
 
 impl ChangingAttrs {
-    /// The same, with one change more counted.
+    /// The same, with one change more counted. After a few, a long list goes on in `ManyAttrs`.
     fn counted(self, alloc: Global) -> Result<ChangingAttrs, Memory>
         requires { NamesApart (attrs_now self) }
         ensures { IfOk result (λ counted. attrs_now counted ≡ attrs_now self) }

@@ -28,6 +28,9 @@
 //! attributes. The checks take no memory, so want of memory is answered only where there is no
 //! fault.
 //!
+//! Where many operations change one opening, its attributes are held so that each is found and
+//! moved by few comparisons (`ManyAttrs`); a few are changed in a list.
+//!
 //! Performing puts only the final head of each changed opening into the store. A parcel's values
 //! are the cited ones in the order of first citation, removed items before inserted ones; in one
 //! item head, marks, whitespace.
