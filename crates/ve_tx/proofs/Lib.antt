@@ -1,6 +1,7 @@
 pub mod NormalLemmas
 pub mod NotedLemmas
 pub mod OrderLemmas
+pub mod ManyLemmas
 pub mod FirstNamesLemmas
 pub mod RangeLemmas
 pub mod TurnedLemmas

@@ -15,6 +15,7 @@ pub mod Applied
 pub mod Gathered
 pub mod Normal
 pub mod Noted
+pub mod Many
 pub mod Order
 pub mod Range
 pub mod Turned

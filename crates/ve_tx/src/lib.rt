@@ -52,6 +52,7 @@ mod filled;
 mod gathered;
 mod inverse;
 mod making;
+mod many;
 mod names;
 mod normal;
 mod op;
