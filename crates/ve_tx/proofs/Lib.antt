@@ -2,6 +2,7 @@ pub mod NormalLemmas
 pub mod NotedLemmas
 pub mod OrderLemmas
 pub mod ManyLemmas
+pub mod LookedLemmas
 pub mod FirstNamesLemmas
 pub mod RangeLemmas
 pub mod TurnedLemmas

@@ -29,10 +29,10 @@ is_later x y xs (k, within, is) = (suc k, omega arith, is)
 
 -- ---- the order tells whether two names are the same
 
-equal_texts : (one other : Bor (List ℕ)) → order one other ≡ Equal → chars one.now ≡ chars other.now
+pub equal_texts : (one other : Bor (List ℕ)) → order one other ≡ Equal → chars one.now ≡ chars other.now
 equal_texts one other equal = ap chars (exact_bytes one.now other.now equal)
 
-equal_names : (one other : Bor (List ℕ)) → IsEncoded one → IsEncoded other → chars one.now ≡ chars other.now → order one other ≡ Equal
+pub equal_names : (one other : Bor (List ℕ)) → IsEncoded one → IsEncoded other → chars one.now ≡ chars other.now → order one other ≡ Equal
 equal_names one other encoded encoded' same =
     let bytes : one.now ≡ other.now = encoded ∙ ap encode_utf8_all same ∙ sym encoded' in
     subst (λ (l : List ℕ). slice_cmp nat_cmp one.now l ≡ Equal) bytes (tied_itself nat_list_cmp_total one.now)

@@ -7,7 +7,9 @@ ghost use Rattle.model_change.specs.Attributes as attributes;
 ghost use Rattle.model_change.specs.Attributes.{value_of, position_of, attr_added, attr_replaced, attr_removed};
 ghost use Rattle.model_change.specs.Fault.{first_allows};
 ghost use Rattle.ve_tx.specs.Checked.{change_of};
+ghost use Rattle.ve_tx.specs.Searched.{SearchesIn, attrs_in, first_attrs};
 
+use crate::lookup::Search;
 use crate::normal::same_text;
 use ve_base::{Attr, Memory, Text, Value, ValueId};
 use ve_items::{Item, Linear};
@@ -52,27 +54,33 @@ fn same_value(one: &Text, value: &Option<Text>) -> bool
 }
 
 /// Whether the attribute of this name has this value, or is absent where that is none.
-fn has_value(attrs: &[Attr], name: &Text, value: &Option<Text>) -> bool
+fn has_value<'s>(search: &Search<'s>, attrs: &'s [Attr], name: &Text, value: &Option<Text>) -> bool
+    requires { SearchesIn attrs.now search.now }
     ensures { result ≡ option_same text_same (value_of name.now attrs.now) value.now }
 {
-    for attr in attrs {
-        if same_text(&attr.name, name) {
-            return same_value(&attr.value, value);
-        }
+    match search.value(attrs, name) {
+        Some(present) => same_value(present, value),
+        None => value.is_none(),
     }
-    value.is_none()
 }
 
 /// Whether an item allows that an attribute which has the value `from` is changed.
-fn allows(store: &Store, item: Item, name: &Text, from: &Option<Text>) -> bool
-    requires { CitesWell store.now item }
+fn allows<'s>(
+    store: &'s Store,
+    item: Item,
+    search: &Search<'s>,
+    name: &Text,
+    from: &Option<Text>,
+) -> bool
+    requires cites { CitesWell store.now item }
+    requires search { SearchesIn (attrs_in (plain store.now item)) search.now }
     ensures { result
         ≡ attributes.allows (change_of name.now from.now None None) (plain store.now item) }
 {
     match item {
         Item::Opening { kind, head, .. } => {
             is_element(kind)
-                && has_value(attrs_of(store, head), name, from)
+                && has_value(search, attrs_of(store, head), name, from)
                 && !is_reserved(name.as_str())
         }
         Item::Char { .. } | Item::Closing { .. } => false,
@@ -80,13 +88,22 @@ fn allows(store: &Store, item: Item, name: &Text, from: &Option<Text>) -> bool
 }
 
 /// The same of the item at a position; past the end there is none that allows it.
-pub fn may_change(list: &Linear, store: &Store, at: usize, name: &Text, from: &Option<Text>) -> bool
-    requires { All (CitesWell store.now) list.now.items }
+pub fn may_change<'s>(
+    list: &Linear,
+    store: &'s Store,
+    at: usize,
+    search: &Search<'s>,
+    name: &Text,
+    from: &Option<Text>,
+) -> bool
+    requires cites { All (CitesWell store.now) list.now.items }
+    requires search { SearchesIn (first_attrs (plain_list store.now (drop at list.now.items)))
+        search.now }
     ensures { result
         ≡ first_allows (change_of name.now from.now None None) (
         plain_list store.now (drop at list.now.items)) }
 {
-    at < list.len() && allows(store, list.get(at), name, from)
+    at < list.len() && allows(store, list.get(at), search, name, from)
 }
 
 /// How many attributes stand before the one of this name; all, where there is none.

@@ -11,7 +11,9 @@ ghost use Rattle.ve_tx.specs.Operation.{unkept};
 
 use crate::Op;
 use crate::attributes::may_change;
+use crate::lookup::{Search, attrs_at};
 use model_change::TxFault;
+use std::alloc::Global;
 use ve_items::{Item, Linear, same_item};
 use ve_store::Store;
 
@@ -89,19 +91,28 @@ pub fn first_mismatch(ops: &[Op], list: &Linear) -> Option<usize>
     None
 }
 
-/// The first position where an attribute operation is not allowed.
-pub fn first_bad(ops: &[Op], list: &Linear, store: &Store) -> Option<usize>
+/// The first position where an attribute operation is not allowed. Many of one position find their
+/// attributes by a map of the names.
+pub fn first_bad(alloc: Global, ops: &[Op], list: &Linear, store: &Store) -> Option<usize>
     requires within { total_size ops.now ≤ max_total_length }
     requires cites { All (CitesWell store.now) list.now.items }
     ensures { result ≡ bad_in store.now list.now.items 0 ops.now }
 {
     let mut at = 0;
+    let mut search = Search::new();
     for op in ops {
         match op {
-            Op::Retain(count) => at += *count,
-            Op::Replace { removed, .. } => at += removed.as_slice().len(),
+            Op::Retain(count) => {
+                at += *count;
+                search = Search::new();
+            }
+            Op::Replace { removed, .. } => {
+                at += removed.as_slice().len();
+                search = Search::new();
+            }
             Op::Attribute { name, from, .. } => {
-                if !may_change(list, store, at, name, from) {
+                search = search.next(alloc, attrs_at(list, store, at));
+                if !may_change(list, store, at, &search, name, from) {
                     return Some(at);
                 }
             }
@@ -110,10 +121,10 @@ pub fn first_bad(ops: &[Op], list: &Linear, store: &Store) -> Option<usize>
     None
 }
 
-/// Whether operations apply to a list. It takes no memory. It asks for lengths first, then whether
-/// the list has the items that are to be removed. Last it asks whether the list's own items allow
-/// the attribute operations.
-pub fn check(ops: &[Op], list: &Linear, store: &Store) -> Result<(), TxFault>
+/// Whether operations apply to a list. It asks for lengths first, then whether the list has the
+/// items that are to be removed. Last it asks whether the list's own items allow the attribute
+/// operations. Where there is no memory it takes longer, and answers the same.
+pub fn check(alloc: Global, ops: &[Op], list: &Linear, store: &Store) -> Result<(), TxFault>
     requires within { total_size ops.now ≤ max_total_length }
     requires distinct { AreDistinct store.now }
     requires list { All (CitesWell store.now) list.now.items }
@@ -129,7 +140,7 @@ pub fn check(ops: &[Op], list: &Linear, store: &Store) -> Result<(), TxFault>
     if let Some(at) = first_mismatch(ops, list) {
         return Err(TxFault::Mismatch { at });
     }
-    if let Some(at) = first_bad(ops, list, store) {
+    if let Some(at) = first_bad(alloc, ops, list, store) {
         return Err(TxFault::BadAttr { at });
     }
     Ok(())

@@ -19,14 +19,14 @@
 //!   its own values, to be sent (specs/Parcel.antt); `recite` is the way back into a store
 //!   (specs/Taken.antt). `Draft` is a transaction with values that no store has yet.
 //! - `Names` notes names, each once, so that many are told apart by few comparisons
-//!   (specs/Noted.antt).
+//!   (specs/Noted.antt). `Lookup` finds the attributes of a list by name as fast, and `Search` does
+//!   so where many are looked for (specs/Looked.antt, specs/Searched.antt).
 //!
 //! The laws are clauses of these calls: `undone` of `inverse`, `restorable` of `filled`, `applied`
 //! of `apply`. The tests stand in ve_tx_samples.
 //!
 //! A transaction is checked in three passes over the old list alone: lengths, removed items,
-//! attributes. The checks take no memory, so want of memory is answered only where there is no
-//! fault.
+//! attributes. Want of memory stops none of them, so it is answered only where there is no fault.
 //!
 //! Where many operations change one opening, its attributes are held so that each is found and
 //! moved by few comparisons (`ManyAttrs`); a few are changed in a list.
@@ -51,6 +51,7 @@ mod entry;
 mod filled;
 mod gathered;
 mod inverse;
+mod lookup;
 mod making;
 mod many;
 mod names;
@@ -67,6 +68,7 @@ pub use attributes::{attrs_of, is_reserved};
 pub use change::Change;
 pub use draft::Draft;
 pub use entry::{Entry, EntryList};
+pub use lookup::{Lookup, Search, attrs_at};
 pub use making::copy_range;
 pub use model_change::TxFault;
 pub use names::Names;

@@ -269,7 +269,7 @@ impl Transaction {
         ensures store_kept { OnErr result (store.new ≡ store.old) }
     {
         let values = store.len();
-        check(self.ops.as_slice(), list, store)?;
+        check(alloc, self.ops.as_slice(), list, store)?;
         match prepared(
             alloc,
             self.ops.as_slice(),
