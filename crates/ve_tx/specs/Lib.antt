@@ -15,13 +15,10 @@ pub mod Applied
 pub mod Gathered
 pub mod Normal
 pub mod Noted
-<<<<<<< HEAD
 pub mod Many
 pub mod Order
-=======
 pub mod Looked
 pub mod Searched
->>>>>>> d5e71e4f (Many attribute operations of one opening find its attributes by a map of the names)
 pub mod Range
 pub mod Turned
 pub mod Entry
