@@ -519,7 +519,7 @@ counted_more from (suc count) =
     let same : from + suc count ≡ suc from + count = omega arith in
     ap (λ l. from ∷ l) (ap (λ n. take count (counted (suc from) count) ++ n ∷ drop count (counted (suc from) count)) same ∙ counted_more (suc from) count)
 
-length-counted : (from count : ℕ) → length (counted from count) ≡ count
+pub length-counted : (from count : ℕ) → length (counted from count) ≡ count
 length-counted from zero = refl
 length-counted from (suc count) = ap suc (length-counted (suc from) count)
 

@@ -74,7 +74,6 @@ pub use model_change::TxFault;
 pub use names::Names;
 pub use normal::same_text;
 pub use op::{Op, OpList};
-pub(crate) use order::Order;
 pub use parcel::{Parcel, ParcelList, ValueList};
 pub use splice::Splice;
 pub use transaction::{Transaction, TxList};

@@ -42,9 +42,9 @@ impl Chunk {
     fn of(alloc: Global, numbers: &[usize]) -> Result<Chunk, Memory>
         ensures { IfOk result (λ chunk. chunk ≡ numbers.now) }
     {
-        let mut copied = Vec::with_capacity(alloc, numbers.len())?;
-        copied.extend_from_slice(numbers)?;
-        Ok(Chunk { numbers: copied })
+        Ok(Chunk {
+            numbers: Vec::from_slice(alloc, numbers)?,
+        })
     }
 
     fn as_slice(&self) -> &[usize]
