@@ -28,8 +28,9 @@
 //! A transaction is checked in three passes over the old list alone: lengths, removed items,
 //! attributes. Want of memory stops none of them, so it is answered only where there is no fault.
 //!
-//! Where many operations change one opening, its attributes are held so that each is found and
-//! moved by few comparisons (`ManyAttrs`); a few are changed in a list.
+//! A few operations change the attributes of an opening in a list (specs/Changing.antt). Where there
+//! are many, each attribute has a slot, which a map of the names finds, and the slots' numbers stand
+//! in an order of small chunks (specs/Many.antt, specs/Order.antt). So none is moved by another.
 //!
 //! Performing puts only the final head of each changed opening into the store. A parcel's values
 //! are the cited ones in the order of first citation, removed items before inserted ones; in one

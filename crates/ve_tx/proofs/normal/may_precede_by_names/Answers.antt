@@ -1,4 +1,4 @@
-use Rattle.std.proofs.Common.{ap, sym, ◌∙◌, ◌∷◌, ◌≡◌, false, true, List, ℕ, subst}
+use Rattle.std.proofs.Common.{ap, sym, ◌∙◌, ◌∷◌, subst}
 use Rattle.ve_tx.specs.declared.op.Op.{Op}
 use Rattle.ve_tx.specs.Normal.{first_names, may_stand_before}
 use Rattle.ve_tx.specs.Noted.{HaveSameNames}

@@ -1,8 +1,8 @@
-use Rattle.std.proofs.Common.{◌≡◌, ℕ, List, Contains, ◌⊎◌, sym, ap, ◌∙◌, subst, Bor}
-use Rattle.std.specs.List.{list_any, All}
+use Rattle.std.proofs.Common.{sym, ap, ◌∙◌, subst}
+use Rattle.std.specs.List.{All}
 use Rattle.std.specs.Str.{encode_utf8_all}
 use Rattle.std.proofs.lemmas.Map.Views.{All-insert_key}
-use Rattle.ve_tx.specs.Noted.{IsEncoded, texts_of}
+use Rattle.ve_tx.specs.Noted.{IsEncoded}
 use Rattle.ve_tx.proofs.NotedLemmas.{order, found, noted_found, more_noted, is_new, as_texts, as_names}
 use Rattle.ve_tx.proofs.names.Names.note.Goals as goal
 
