@@ -1,15 +1,17 @@
 -- Operations as a line writes them, as the operations of a transaction.
-use Rattle.std.proofs.Common.{◌≡◌, ◌≢◌, ◌≤◌, ℕ, zero, suc, ◌+◌, ◌-◌, ◌==◌, Bool, true, false, Some, None, List, [], ◌∷◌, ◌++◌, All, length, slice_get, take, drop, Result, Ok, Err, refl, sym, ap, ◌∙◌, subst, append-nil, append_assoc, arith}
+use Rattle.std.proofs.Common.{◌≡◌, ◌≢◌, ◌≤◌, ℕ, zero, suc, ◌+◌, ◌-◌, ◌==◌, Bool, true, false, Option, Some, None, List, [], ◌∷◌, ◌++◌, All, length, slice_get, take, drop, Result, Ok, Err, refl, sym, ap, ◌∙◌, subst, append-nil, append_assoc, arith}
 use Rattle.std.specs.Prelude.{slice_range}
 use Rattle.std.proofs.lemmas.Bool.{eq-eqb, ne_eqb}
-use Rattle.std.proofs.lemmas.List.{map-append, drop-drop}
+use Rattle.std.proofs.lemmas.List.{map-append, drop-drop, drop-map}
 use Rattle.std.proofs.lemmas.List.Concat.{flat_map-append}
 use Rattle.std.proofs.lemmas.List.Elements.{All-nil, All-cons, All-append, All-take, All-drop}
+use Rattle.ve_base.specs.declared.attrs.Attr.{Attr}
 use Rattle.ve_base.specs.declared.value.Value.{Value}
 use Rattle.model_items.specs.declared.item.Item.{Item}
 use Rattle.model_items.specs.Plain.{plain, plain_list, CitesWell}
 use Rattle.model_items.specs.declared.plain_item.PlainItem.{PlainItem}
 use Rattle.model_items.specs.declared.plain_item.PlainItem.TheVariants.{Char, Opening, Closing}
+use Rattle.model_change.specs.Attributes.{value_of}
 use Rattle.model_change.specs.Store.{cited, cited_by, fill}
 use Rattle.model_change.specs.Transaction.{Retain, Replace, Attribute, Transaction, all_inserted}
 use Rattle.model_edit.specs.Edits.{present_value}
@@ -20,6 +22,8 @@ use Rattle.model_world.specs.declared.refusal.Refusal.TheVariants as refusal
 use Rattle.model_world.specs.Edits.{needs, ops_on, transaction_of_ops}
 use Rattle.ve_store.specs.Following.{Following, together}
 use Rattle.ve_tx.specs.declared.op.Op.{Op as CitedOp}
+use Rattle.ve_tx.specs.declared.lookup.Search.{Search}
+use Rattle.ve_tx.specs.Searched.{SearchesIn, first_attrs}
 use Rattle.ve_tx.specs.Cites.{OperationCites, TxCites}
 use Rattle.ve_tx.specs.Operation.{Operation, by_value, operation_by_value, unkept, with_position}
 use Rattle.ve_tx.proofs.ValuesLemmas.{extends_by_fill, filled_on, all-extended, list-extended}
@@ -29,20 +33,36 @@ use Rattle.ve_changes.specs.Drafts.{IsDrafted}
 
 -- ---- the value that an attribute has
 
--- it is read of the first item alone
-pub of_first : (name : List ℕ) (item : PlainItem) (items : List PlainItem) → present_value name (item ∷ []) ≡ present_value name (item ∷ items)
-of_first name (Opening kind head marks pre origin generated) items = refl
-of_first name (Char ch marks) items = refl
-of_first name (Closing kind pre) items = refl
+-- it is that of the first item's attributes
+value_first : (name : List ℕ) (items : List PlainItem) → value_of name (first_attrs items) ≡ present_value name items
+value_first name [] = refl
+value_first name (Opening kind head marks pre origin generated ∷ items) = refl
+value_first name (Char ch marks ∷ items) = refl
+value_first name (Closing kind pre ∷ items) = refl
 
--- so that of the item at a position is that of the items from there on
-pub of_place : (store : List Value) (items : List Item) (at : ℕ) (x : Item) (name : List ℕ) → slice_get items at ≡ Some x →
-    present_value name (plain store x ∷ []) ≡ present_value name (drop at (plain_list store items))
-of_place store [] at x name e = cc
-of_place store (y ∷ items) zero x name e =
-    let same : y ≡ x = cc in
-    of_first name (plain store x) (plain_list store items) ∙ ap (λ z. present_value name (plain store z ∷ plain_list store items)) (sym same)
-of_place store (y ∷ items) (suc at) x name e = of_place store items at x name e
+attrs_there : (store : List Value) (items : List Item) (at : ℕ) → first_attrs (plain_list store (drop at items)) ≡ first_attrs (drop at (plain_list store items))
+attrs_there store items at = ap first_attrs (sym (drop-map (plain store) at items))
+
+-- the attributes that are borrowed of the list are searched as those of the page
+pub searches_lent : (store : List Value) (items : List Item) (at : ℕ) (attrs : List Attr) (search : Search) → attrs ≡ first_attrs (plain_list store (drop at items)) →
+    SearchesIn (first_attrs (drop at (plain_list store items))) search → SearchesIn attrs search
+searches_lent store items at attrs search lent fits = subst (λ (l : List Attr). SearchesIn l search) (sym (lent ∙ attrs_there store items at)) fits
+
+pub searches_page : (store : List Value) (items : List Item) (at : ℕ) (attrs : List Attr) (search : Search) → attrs ≡ first_attrs (plain_list store (drop at items)) →
+    SearchesIn attrs search → SearchesIn (first_attrs (drop at (plain_list store items))) search
+searches_page store items at attrs search lent fits = subst (λ (l : List Attr). SearchesIn l search) (lent ∙ attrs_there store items at) fits
+
+-- an attribute's operation passes nothing
+pub searches_on : (items : List PlainItem) (at : ℕ) (o : OpWords) (name : List ℕ) (to : Option (List ℕ)) (search : Search) → o ≡ words.Attr name to →
+    SearchesIn (first_attrs (drop at items)) search → SearchesIn (first_attrs (drop (at + items_passed o) items)) search
+searches_on items at o name to search e fits =
+    let none : items_passed o ≡ 0 = ap items_passed e in
+    let here : at ≡ at + items_passed o = omega (arith, none) in
+    subst (λ n. SearchesIn (first_attrs (drop n items)) search) here fits
+
+pub value_there : (store : List Value) (items : List Item) (at : ℕ) (attrs : List Attr) (name : List ℕ) → attrs ≡ first_attrs (plain_list store (drop at items)) →
+    value_of name attrs ≡ present_value name (drop at (plain_list store items))
+value_there store items at attrs name lent = ap (value_of name) (lent ∙ attrs_there store items at) ∙ value_first name (drop at (plain_list store items))
 
 -- ---- the items that one removes
 

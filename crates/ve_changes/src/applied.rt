@@ -9,6 +9,7 @@ ghost use Rattle.model_world.specs.Edits as model;
 ghost use Rattle.model_world_law.specs.Fit.{IsWritten};
 ghost use Rattle.ve_store.specs.Following.{together};
 ghost use Rattle.ve_tx.specs.Cites.{OperationCites, TxCites};
+ghost use Rattle.ve_tx.specs.Searched.{SearchesIn, first_attrs};
 ghost use Rattle.ve_tx.specs.Operation.{by_value, operation_by_value, unkept, with_position};
 ghost use Rattle.ve_editor.specs.Page.{IsPage};
 ghost use Rattle.ve_offsets.specs.Docs.{page_items};
@@ -20,10 +21,9 @@ use crate::cited::cited_items;
 use model_world::{OpWords, Refusal};
 use std::alloc::Global;
 use ve_base::{Memory, Text, TryCopy};
-use ve_edits::present_value;
 use ve_offsets::Doc;
 use ve_store::NewValues;
-use ve_tx::{Draft, Op, OpList, Transaction};
+use ve_tx::{Draft, Op, OpList, Search, Transaction, attrs_at};
 
 /// How many items an operation passes.
 fn passed(op: &OpWords) -> usize
@@ -51,28 +51,61 @@ fn needs(ops: &[OpWords]) -> Result<usize, Memory>
     Ok(sum)
 }
 
-/// The value that an attribute has at a position; none at the list's end.
-fn value_at(alloc: Global, doc: Doc<'_>, at: usize, name: &Text) -> Result<Option<Text>, Memory>
+/// How the attributes at a position are searched for an operation, and for the next one after it.
+/// Those of one position have one search.
+fn search_at<'a>(
+    alloc: Global,
+    doc: Doc<'a>,
+    at: usize,
+    op: &OpWords,
+    search: Search<'a>,
+) -> Search<'a>
     requires page { IsPage doc.store.now doc.list.now.items doc.tree.now }
+    requires search { SearchesIn (first_attrs (drop at (page_items doc))) search }
+    ensures here { SearchesIn (first_attrs (drop at (page_items doc.entry))) result }
+    ensures after { SearchesIn
+        (first_attrs (drop (at + words.items_passed op.now) (page_items doc.entry))) result }
+{
+    match op {
+        OpWords::Retain(_) | OpWords::Remove { .. } => Search::new(),
+        OpWords::Attr { .. } => search.next(alloc, attrs_at(doc.list, doc.store, at)),
+    }
+}
+
+/// The value that an attribute has at a position; none at the list's end.
+fn value_at<'a>(
+    alloc: Global,
+    doc: Doc<'a>,
+    at: usize,
+    search: &Search<'a>,
+    name: &Text,
+) -> Result<Option<Text>, Memory>
+    requires page { IsPage doc.store.now doc.list.now.items doc.tree.now }
+    requires search { SearchesIn (first_attrs (drop at (page_items doc))) search.now }
     ensures { IfOk result (λ value.
         value ≡ model_edits.present_value name.now (drop at (page_items doc.entry))) }
 {
-    if at >= doc.list.len() {
-        return Ok(None);
+    let attrs = attrs_at(doc.list, doc.store, at);
+    match search.value(attrs, name) {
+        Some(value) => {
+            let value = value.copy(alloc)?;
+            Ok(Some(value))
+        }
+        None => Ok(None),
     }
-    let value = present_value(alloc, doc.store, doc.list.get(at), name)?;
-    Ok(value)
 }
 
 /// An operation at a position. The values take those that its inserted items cite.
-fn op_at(
+fn op_at<'a>(
     alloc: Global,
-    doc: Doc<'_>,
+    doc: Doc<'a>,
     new: &mut NewValues,
     at: usize,
+    search: &Search<'a>,
     op: &OpWords,
 ) -> Result<Op, Memory>
     requires page { IsPage doc.store.now doc.list.now.items doc.tree.now }
+    requires search { SearchesIn (first_attrs (drop at (page_items doc))) search.now }
     requires follows { new.old.after ≡ length doc.store.now }
     requires within { at + words.items_passed op.now ≤ length doc.list.now.items }
     ensures follows { OnOk result (new.new.after ≡ length doc.entry.store.now) }
@@ -96,7 +129,7 @@ fn op_at(
         }
         OpWords::Attr { name, to } => Ok(Op::Attribute {
             name: name.copy(alloc)?,
-            from: value_at(alloc, doc, at, name)?,
+            from: value_at(alloc, doc, at, search, name)?,
             to: to.copy(alloc)?,
         }),
     }
@@ -127,8 +160,10 @@ fn ops_on(
     let _len = doc.list.len();
     let mut made = OpList::new(alloc);
     let mut at = 0;
+    let mut search = Search::new();
     for op in ops {
-        let next = op_at(alloc, doc, new, at, op)?;
+        search = search_at(alloc, doc, at, op, search);
+        let next = op_at(alloc, doc, new, at, &search, op)?;
         made.push(next)?;
         at += passed(op);
     }

@@ -4,6 +4,7 @@ use Rattle.model_items.specs.Plain.{plain}
 use Rattle.model_world.specs.Edits.{needs}
 use Rattle.ve_offsets.specs.Docs.{page_items}
 use Rattle.ve_store.specs.Following.{together}
+use Rattle.ve_tx.specs.Searched.{SearchesIn, first_attrs}
 use Rattle.ve_changes.specs.Applied.{items_passed}
 use Rattle.ve_changes.proofs.AppliedLemmas.{Applying, applying_all, applying_filled, applying_next, applying_none, needs_within}
 use Rattle.ve_changes.proofs.applied.ops_on.Goals as goal
@@ -14,7 +15,7 @@ loop-op-init c =
     let v = together S c.args.new.now in
     let P = page_items c.args.doc in
     let ops = c.args.ops.now in (
-      c.requires.follows,
+      (c.requires.follows, c.new-search.ensures _),
       subst (Applying v v P ops ops 0) (sym c.new-made.ensures) (applying_none v P ops (c.requires.needs ∙ sym (length-map c.args.doc.list.now.items (plain S)))),
     )
 
@@ -45,7 +46,7 @@ loop-op-preserved c =
     let one = drop_more ops i o c.loop-op-test.true ∙ ap (λ x. x ∷ rest) (sym c.op-item.is) in
     let s = subst (λ l. Applying v0 v P ops l at made) one c.loop-op.invariant.1 in
     let next = applying_next v0 v w P ops rest o at made c.in_ok-next.next s c.in_ok-next.ensures.cites c.in_ok-next.ensures.means c.in_ok-next.ensures.values in (
-      c.in_ok-next.ensures.follows,
+      (c.in_ok-next.ensures.follows, subst (λ k. SearchesIn (first_attrs (drop (at + k) P)) c.search_at-search.result) (sym c.passed-at.ensures) c.search_at-search.ensures.after),
       subst (λ k. Applying v0 w P ops rest (at + k) c.push.new.self) (sym c.passed-at.ensures)
           (subst (Applying v0 w P ops rest (at + items_passed o)) (sym c.in_ok-push.ensures.ok) next),
     )
