@@ -10,15 +10,16 @@ use Rattle.std.specs.declared.cmp.Ordering.TheVariants.{Less, Equal, Greater}
 use Rattle.std.proofs.lemmas.Cmp.{nat_list_cmp_total, tied_itself}
 use Rattle.std.proofs.lemmas.Map.Lookups.{exact_bytes}
 use Rattle.std.specs.Str.{chars, encode_utf8_all}
-use Rattle.std.proofs.lemmas.Bool.{cases_Bool}
+use Rattle.std.proofs.lemmas.Bool.{cases_Bool, or_from, or_parts}
 use Rattle.std.proofs.lemmas.List.{get_or_append_left, get_or_at, get_or_read, drop_more}
 use Rattle.ve_base.specs.declared.attrs.Attr.{Attr}
 use Rattle.ve_base.specs.Names.{names, NamesApart}
 use Rattle.model_items.specs.Same.{text_same}
 use Rattle.model_items.proofs.SameLemmas.{Means-text_same}
 use Rattle.model_change.specs.Attributes.{value_of, position_of, attr_added, attr_replaced, attr_removed}
-use Rattle.ve_tx.specs.Order.{place_of, without, counted}
-use Rattle.ve_tx.specs.Many.{slot_at, attrs_in, AreApart, Notes, IsIndexed}
+use Rattle.ve_tx.specs.Order.{EachOnce, place_of, stands, without, counted}
+use Rattle.ve_tx.specs.Many.{slot_at, ordered, Notes, IsIndexed}
+use Rattle.ve_tx.proofs.OrderLemmas.{once_put, once_without}
 use Rattle.ve_tx.proofs.NotedLemmas.{first_or_later, is_first, is_later}
 use Rattle.ve_tx.proofs.AttrsLemmas.{apart-next}
 
@@ -45,26 +46,16 @@ all-put P zero number order p h = (p, h)
 all-put P (suc at) number [] p h = (p, h)
 all-put P (suc at) number (n ∷ order) p h = (h.0, all-put P at number order p h.1)
 
-other_way : (n m : ℕ) → (n == m) ≡ false → (m == n) ≡ false
-other_way n m h = ne_eqb m n (λ e. let same = eq-eqb n m (sym e) in cc)
-
-apart-without : (number : ℕ) (order : List ℕ) → AreApart order → AreApart (without number order)
-apart-without number [] h = tt
-apart-without number (n ∷ order) h = by (apart-without number order h.1) (n == number)
-  where
-    by : AreApart (without number order) → (b : Bool) → AreApart (if b then order else n ∷ without number order)
-    by rest true = h.1
-    by rest false = (all-without (λ other. (other == n) ≡ false) number order h.0, rest)
-
-apart-put : (at number : ℕ) (order : List ℕ) → AllByRecursion (λ other. (other == number) ≡ false) order → AreApart order → AreApart (take at order ++ number ∷ drop at order)
-apart-put zero number order new h = (new, h)
-apart-put (suc at) number [] new h = (new, h)
-apart-put (suc at) number (n ∷ order) new h =
-    (all-put (λ other. (other == n) ≡ false) at number order (other_way n number new.0) h.0, apart-put at number order new.1 h.1)
-
 -- a number that is beyond those of an order is new to it
-new_number : (number : ℕ) (order : List ℕ) → AllByRecursion (λ n. n < number) order → AllByRecursion (λ other. (other == number) ≡ false) order
-new_number number order h = all_map order (λ n below. ne_eqb n number (λ e. let none : ⊥ = omega (arith, e, below) in none)) h
+new_number : (number : ℕ) (order : List ℕ) → AllByRecursion (λ n. n < number) order → stands number order ≡ false
+new_number number [] h = refl
+new_number number (n ∷ order) h =
+    or_from (n == number) (stands number order) (ne_eqb n number (λ e. let below = h.0 in let none : ⊥ = omega (arith, e, below) in none)) (new_number number order h.1)
+
+-- a number that doesn't stand in an order is none of it
+all_others : (number : ℕ) (order : List ℕ) → stands number order ≡ false → AllByRecursion (λ other. (other == number) ≡ false) order
+all_others number [] h = tt
+all_others number (n ∷ order) h = let parts = or_parts (n == number) (stands number order) h in (parts.0, all_others number order parts.1)
 
 pub not_there : (number : ℕ) (order : List ℕ) → AllByRecursion (λ n. n < number) order → ¬ Contains order number
 not_there number [] h within = absurd (let below = within.1 in omega arith)
@@ -128,7 +119,7 @@ map_same : (f g : ℕ → Attr) (order : List ℕ) → AllByRecursion (λ n. g n
 map_same f g [] h = refl
 map_same f g (n ∷ order) h = ap₂ (λ a l. a ∷ l) (sym h.0) (map_same f g order h.1)
 
-replaced-told : (f g : ℕ → Attr) (name value : List ℕ) (number : ℕ) (order : List ℕ) → Tells f name number order → AreApart order →
+replaced-told : (f g : ℕ → Attr) (name value : List ℕ) (number : ℕ) (order : List ℕ) → Tells f name number order → EachOnce order →
     ((n : ℕ) → (n == number) ≡ false → g n ≡ f n) → g number ≡ record { name = (f number).name; value = value } → attr_replaced name value (map f order) ≡ map g order
 replaced-told f g name value number [] h apart others this = refl
 replaced-told f g name value number (n ∷ order) h apart others this =
@@ -139,7 +130,7 @@ replaced-told f g name value number (n ∷ order) h apart others this =
     by true e rest =
         let same : n ≡ number = eqb-true n number e in
         let first : g n ≡ record { name = (f n).name; value = value } = subst (λ k. g k ≡ record { name = (f k).name; value = value }) (sym same) this in
-        ap₂ (λ a l. a ∷ l) (sym first) (map_same f g order (all_map order (λ m differ. others m (subst (λ k. (m == k) ≡ false) same differ)) apart.0))
+        ap₂ (λ a l. a ∷ l) (sym first) (map_same f g order (all_map order (λ m differ. others m (subst (λ k. (m == k) ≡ false) same differ)) (all_others n order apart.0)))
     by false e rest = ap₂ (λ a l. a ∷ l) (sym (others n e)) rest
 
 -- an attribute that is put in
@@ -223,14 +214,14 @@ module _ {slots : List Attr} {numbers : List ℕ → Option ℕ} {order : List �
           ]
 
   pub position-found : (name : List ℕ) (number : ℕ) → chars (encode_utf8_all name) ≡ name → numbers (encode_utf8_all name) ≡ Some number →
-      unwrap_or (place_of number order) (length order) ≡ position_of name (attrs_in slots order)
+      unwrap_or (place_of number order) (length order) ≡ position_of name (ordered slots order)
   position-found name number spelled found = sym (position-told at name number order (tells name number spelled found))
 
-  pub position-missing : (name : List ℕ) → numbers (encode_utf8_all name) ≡ None → length order ≡ position_of name (attrs_in slots order)
+  pub position-missing : (name : List ℕ) → numbers (encode_utf8_all name) ≡ None → length order ≡ position_of name (ordered slots order)
   position-missing name none = sym (position-absent at name order (missing name none))
 
   -- a name that is there is in the map
-  pub is_found : (name : List ℕ) → IsSome (value_of name (attrs_in slots order)) → IsSome (numbers (encode_utf8_all name))
+  pub is_found : (name : List ℕ) → IsSome (value_of name (ordered slots order)) → IsSome (numbers (encode_utf8_all name))
   is_found name some = by (numbers (encode_utf8_all name)) refl
     where
       none_of : (order : List ℕ) → Absent at name order → ¬ IsSome (value_of name (map at order))
@@ -243,33 +234,12 @@ module _ {slots : List Attr} {numbers : List ℕ → Option ℕ} {order : List �
 
   -- one that is taken out
   pub taken_out : (name : List ℕ) (number : ℕ) → chars (encode_utf8_all name) ≡ name → numbers (encode_utf8_all name) ≡ Some number →
-      attrs_in slots (without number order) ≡ attr_removed name (attrs_in slots order)
+      ordered slots (without number order) ≡ attr_removed name (ordered slots order)
   taken_out name number spelled found = sym (removed-told at name number order (tells name number spelled found))
 
-  pub one_fewer : (name : List ℕ) (number : ℕ) → chars (encode_utf8_all name) ≡ name → numbers (encode_utf8_all name) ≡ Some number → IsSome (value_of name (attrs_in slots order)) →
+  pub one_fewer : (name : List ℕ) (number : ℕ) → chars (encode_utf8_all name) ≡ name → numbers (encode_utf8_all name) ≡ Some number → IsSome (value_of name (ordered slots order)) →
       suc (length (without number order)) ≡ length order
   one_fewer name number spelled found some = length-removed at name number order (tells name number spelled found) some
-
-  -- names are apart
-  pub apart_view : NamesApart (attrs_in slots order)
-  apart_view = each order indexed.told indexed.once
-    where
-      differs : (n m : ℕ) → numbers (encode_utf8_all (at n).name) ≡ Some n → numbers (encode_utf8_all (at m).name) ≡ Some m → (m == n) ≡ false → text_same (at m).name (at n).name ≡ false
-      differs n m told told' other =
-          elim (cases_Bool (text_same (at m).name (at n).name)) [
-            | inl same ↦ absurd (
-                let names_same : (at m).name ≡ (at n).name = Means-text_same.equal (at m).name (at n).name same in
-                let both : Some m ≡ Some n = sym told' ∙ ap (λ t. numbers (encode_utf8_all t)) names_same ∙ told in
-                let is : m ≡ n = cc in
-                let equal : (m == n) ≡ true = eq-eqb m n is in
-                cc)
-            | inr differ ↦ differ
-          ]
-
-      each : (order : List ℕ) → AllByRecursion (λ n. numbers (encode_utf8_all (at n).name) ≡ Some n) order → AreApart order → NamesApart (map at order)
-      each [] told once = tt
-      each (n ∷ order) told once =
-          (names_without at (at n).name order (all_both order (λ m told' other. differs n m told.0 told' other) told.1 once.0), each order told.1 once.1)
 
 -- ---- the map of names
 
@@ -360,7 +330,7 @@ fewer slots numbers order number i = record {
   within = all-without _ number order i.within;
   told = all-without _ number order i.told;
   known = i.known;
-  once = apart-without number order i.once;
+  once = once_without number order i.once;
   few = let few = i.few in let less = no_more number order in omega (arith, few, less);
 }
   where
@@ -394,7 +364,7 @@ more_slots slots a numbers order i =
       few = let few = i.few in omega (arith, long, few);
     }
 
-pub same_attrs : (slots : List Attr) (a : Attr) (order : List ℕ) → AllByRecursion (λ n. n < length slots) order → attrs_in (slots ++ a ∷ []) order ≡ attrs_in slots order
+pub same_attrs : (slots : List Attr) (a : Attr) (order : List ℕ) → AllByRecursion (λ n. n < length slots) order → ordered (slots ++ a ∷ []) order ≡ ordered slots order
 same_attrs slots a order h = sym (map_same (slot_at slots) (slot_at (slots ++ a ∷ [])) order (all_map order (λ n below. kept_slot slots a n below) h))
 
 -- one more name in the map
@@ -437,8 +407,8 @@ named slots before after order name number i below its spelled new notes = recor
 pub slot_indexed : (slots after : List Attr) (a : Attr) (numbers : List ℕ → Option ℕ) (order : List ℕ) → after ≡ slots ++ a ∷ [] → IsIndexed slots numbers order → IsIndexed after numbers order
 slot_indexed slots after a numbers order e i = subst (λ l. IsIndexed l numbers order) (sym e) (more_slots slots a numbers order i)
 
-pub slot_attrs : (slots after : List Attr) (a : Attr) (numbers : List ℕ → Option ℕ) (order : List ℕ) → after ≡ slots ++ a ∷ [] → IsIndexed slots numbers order → attrs_in after order ≡ attrs_in slots order
-slot_attrs slots after a numbers order e i = ap (λ l. attrs_in l order) e ∙ same_attrs slots a order i.within
+pub slot_attrs : (slots after : List Attr) (a : Attr) (numbers : List ℕ → Option ℕ) (order : List ℕ) → after ≡ slots ++ a ∷ [] → IsIndexed slots numbers order → ordered after order ≡ ordered slots order
+slot_attrs slots after a numbers order e i = ap (λ l. ordered l order) e ∙ same_attrs slots a order i.within
 
 pub slot_last : (slots after : List Attr) (a old : Attr) (number : ℕ) → after ≡ slots ++ a ∷ [] → number ≡ length slots → old ≡ get_or after number old → old ≡ a
 slot_last slots after a old number e is here =
@@ -451,9 +421,9 @@ name_told slots a old number before numbers same is notes =
     ap (λ (x : Attr). numbers (encode_utf8_all x.name)) (sym same) ∙ noted_one before numbers (encode_utf8_all old.name) number notes ∙ ap Some is
 
 pub name_indexed : (slots after : List Attr) (a old : Attr) (number : ℕ) (before numbers : List ℕ → Option ℕ) (order : List ℕ) → after ≡ slots ++ a ∷ [] → number ≡ length slots → old ≡ a →
-    chars (encode_utf8_all old.name) ≡ old.name → Notes before (encode_utf8_all old.name) number numbers → IsIndexed slots before order → value_of a.name (attrs_in slots order) ≡ None → IsIndexed after numbers order
+    chars (encode_utf8_all old.name) ≡ old.name → Notes before (encode_utf8_all old.name) number numbers → IsIndexed slots before order → value_of a.name (ordered slots order) ≡ None → IsIndexed after numbers order
 name_indexed slots after a old number before numbers order e is same spelled notes i new =
-    let new' : value_of old.name (attrs_in after order) ≡ None = ap₂ (λ (x : Attr) (l : List Attr). value_of x.name l) same (slot_attrs slots after a before order e i) ∙ new in
+    let new' : value_of old.name (ordered after order) ≡ None = ap₂ (λ (x : Attr) (l : List Attr). value_of x.name l) same (slot_attrs slots after a before order e i) ∙ new in
     let long : length after ≡ length slots + 1 = ap length e ∙ length-append slots (a ∷ []) in
     let its : slot_at after number ≡ old = ap₂ slot_at e is ∙ last_slot slots a ∙ sym same in
     named after before numbers order old.name number (slot_indexed slots after a before order e i) (omega (arith, long, is)) (ap (λ (x : Attr). x.name) its) spelled (absent (slot_at after) old.name order new') notes
@@ -465,7 +435,7 @@ placed slots numbers order at number i below room new told = record {
   within = all-put _ at number order below i.within;
   told = all-put _ at number order told i.told;
   known = i.known;
-  once = apart-put at number order (new_number number order new) i.once;
+  once = once_put number order at i.once (new_number number order new);
   few = let long = length-put at number order in omega (arith, long, room);
 }
 
@@ -479,11 +449,11 @@ put_indexed slots after a before numbers order at number e is old i told =
     placed after numbers order at number i (omega (arith, long, is)) (omega (arith, few, long)) (subst (λ k. AllByRecursion (λ n. n < k) order) (sym is) old.within)
     (ap (λ (x : Attr). numbers (encode_utf8_all x.name)) its ∙ told ∙ ap Some (sym is))
 
-pub put_attrs : (slots after : List Attr) (a : Attr) (order : List ℕ) (kept : Option ℕ) (count number : ℕ) → after ≡ slots ++ a ∷ [] → number ≡ length slots → count ≡ length order → attrs_in after order ≡ attrs_in slots order →
-    attrs_in after (take (unwrap_or kept count) order ++ number ∷ drop (unwrap_or kept count) order) ≡ attr_added kept a (attrs_in slots order)
+pub put_attrs : (slots after : List Attr) (a : Attr) (order : List ℕ) (kept : Option ℕ) (count number : ℕ) → after ≡ slots ++ a ∷ [] → number ≡ length slots → count ≡ length order → ordered after order ≡ ordered slots order →
+    ordered after (take (unwrap_or kept count) order ++ number ∷ drop (unwrap_or kept count) order) ≡ attr_added kept a (ordered slots order)
 put_attrs slots after a order kept count number e is counts same =
     let its : slot_at after number ≡ a = ap₂ slot_at e is ∙ last_slot slots a in
-    ap (λ n. attrs_in after (take (unwrap_or kept n) order ++ number ∷ drop (unwrap_or kept n) order)) counts
+    ap (λ n. ordered after (take (unwrap_or kept n) order ++ number ∷ drop (unwrap_or kept n) order)) counts
     ∙ sym (added (slot_at after) kept number order)
     ∙ ap₂ (attr_added kept) its same
 
@@ -503,7 +473,7 @@ valued slots numbers order number a below same i = renamed slots (slice_set slot
 
 pub value_set : (slots : List Attr) (numbers : List ℕ → Option ℕ) (order : List ℕ) (name value : List ℕ) (number : ℕ) (old : Attr) → IsIndexed slots numbers order →
     chars (encode_utf8_all name) ≡ name → numbers (encode_utf8_all name) ≡ Some number → number < length slots → old ≡ slot_at slots number →
-    attrs_in (slice_set slots number (record { name = old.name; value = value })) order ≡ attr_replaced name value (attrs_in slots order)
+    ordered (slice_set slots number (record { name = old.name; value = value })) order ≡ attr_replaced name value (ordered slots order)
 value_set slots numbers order name value number old i spelled found below is =
     let none : Attr = record { name = []; value = [] } in
     let a : Attr = record { name = old.name; value = value } in
@@ -527,7 +497,7 @@ counted-below : (from count bound : ℕ) → from + count ≤ bound → AllByRec
 counted-below from zero bound h = tt
 counted-below from (suc count) bound h = (omega (arith, h), counted-below (suc from) count bound (omega (arith, h)))
 
-counted_attrs : (slots : List Attr) (from count : ℕ) → from + count ≤ length slots → attrs_in slots (counted from count) ≡ take count (drop from slots)
+counted_attrs : (slots : List Attr) (from count : ℕ) → from + count ≤ length slots → ordered slots (counted from count) ≡ take count (drop from slots)
 counted_attrs slots from zero h = refl
 counted_attrs slots from (suc count) h =
     let rest : drop from slots ≡ slot_at slots from ∷ drop (from + 1) slots = drop_more slots from (record { name = []; value = [] }) (omega (arith, h)) in
@@ -548,7 +518,7 @@ pub next_indexed : (slots : List Attr) (before after : List ℕ → Option ℕ) 
 next_indexed slots before after i a apart below here spelled so_far notes =
     let own : slot_at slots i ≡ a = sym (get_or_read slots i a below here (record { name = []; value = [] })) in
     let new : ¬ Contains (names (take i slots)) a.name = apart-next [] slots i a below here apart in
-    let attrs : attrs_in slots (counted 0 i) ≡ take i slots = counted_attrs slots 0 i (omega (arith, below)) in
+    let attrs : ordered slots (counted 0 i) ≡ take i slots = counted_attrs slots 0 i (omega (arith, below)) in
     let free : Absent (slot_at slots) a.name (counted 0 i) = absent_from_names (slot_at slots) a.name (counted 0 i) (subst (λ l. ¬ Contains (names l) a.name) (sym attrs) new) in
     let noted : IsIndexed slots after (counted 0 i) = named slots before after (counted 0 i) a.name i so_far below (ap (λ (x : Attr). x.name) own) spelled free notes in
     let told : after (encode_utf8_all (slot_at slots i).name) ≡ Some i = ap (λ (x : Attr). after (encode_utf8_all x.name)) own ∙ noted_one before after (encode_utf8_all a.name) i notes in
@@ -558,5 +528,5 @@ next_indexed slots before after i a apart below here spelled so_far notes =
     (subst (IsIndexed slots after) (ap (λ n. take i (counted 0 i) ++ n ∷ drop i (counted 0 i)) (sym (zero-add i)) ∙ counted_more 0 i)
     (placed slots after (counted 0 i) i i noted below (omega (arith, long, below)) (counted-below 0 i i (omega arith)) told))
 
-pub whole_list : (slots : List Attr) → attrs_in slots (counted 0 (length slots)) ≡ slots
+pub whole_list : (slots : List Attr) → ordered slots (counted 0 (length slots)) ≡ slots
 whole_list slots = counted_attrs slots 0 (length slots) (omega arith) ∙ take_all (length slots) slots (omega arith)

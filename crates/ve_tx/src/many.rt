@@ -5,7 +5,7 @@ ghost use Rattle.std.specs.BTreeMap.{get_by_text};
 ghost use Rattle.ve_base.specs.Names.{NamesApart};
 ghost use Rattle.model_change.specs.Attributes.{value_of, position_of, attr_added, attr_replaced, attr_removed};
 ghost use Rattle.ve_tx.specs.Order.{counted};
-ghost use Rattle.ve_tx.specs.Many.{attrs_in, Notes, IsIndexed};
+ghost use Rattle.ve_tx.specs.Many.{ordered, Notes, IsIndexed};
 
 use crate::order::Order;
 use std::alloc::Global;
@@ -41,11 +41,11 @@ impl Model for ManyAttrs {
     ghost use Rattle.std.specs.Prelude.{◌≡◌, List, length};
     ghost use Rattle.std.specs.BTreeMap.{get_by_text};
     ghost use Rattle.ve_base.specs.declared.attrs.Attr.{Attr};
-    ghost use Rattle.ve_tx.specs.Many.{attrs_in, IsIndexed};
+    ghost use Rattle.ve_tx.specs.Many.{ordered, IsIndexed};
 
     ghost Value = { List Attr };
 
-    ghost view = { λ many. attrs_in many.slots.items many.order };
+    ghost view = { λ many. ordered many.slots.items many.order };
 
     ghost invariant = { λ many. IsIndexed many.slots.items (get_by_text many.numbers) many.order
         × (many.count ≡ length many.order) };
@@ -84,7 +84,7 @@ fn numbered(alloc: Global, attrs: &[Attr]) -> Result<BTreeMap<String, usize>, Me
 /// Copies of the attributes in these slots.
 fn copies(alloc: Global, slots: &[Attr], numbers: &[usize]) -> Result<Vec<Attr>, Memory>
     requires { All (λ number. number < length slots.now) numbers.now }
-    ensures { IfOk result (λ list. list.items ≡ attrs_in slots.now numbers.now) }
+    ensures { IfOk result (λ list. list.items ≡ ordered slots.now numbers.now) }
 {
     let mut list = Vec::with_capacity(alloc, numbers.len())?;
     for i in 0..numbers.len() {
@@ -105,10 +105,10 @@ fn add_slot(
     ensures told { OnOk result (
         get_by_text numbers.new (encode_utf8_all attr.name) ≡ Some (length slots.old.items)) }
     ensures indexed { (order : List ℕ) → IsIndexed slots.old.items (get_by_text numbers.old) order
-        → value_of attr.name (attrs_in slots.old.items order) ≡ None
+        → value_of attr.name (ordered slots.old.items order) ≡ None
         → IsIndexed slots.new.items (get_by_text numbers.new) order }
     ensures attrs { (order : List ℕ) → IsIndexed slots.old.items (get_by_text numbers.old) order
-        → attrs_in slots.new.items order ≡ attrs_in slots.old.items order }
+        → ordered slots.new.items order ≡ ordered slots.old.items order }
 {
     let number = slots.len();
     slots.push(attr)?;

@@ -1,7 +1,7 @@
 use Rattle.std.proofs.Common.{◌≡◌, length, sym, ap, ◌∙◌, subst, arith}
 use Rattle.std.specs.BTreeMap.{get_by_text}
 use Rattle.ve_tx.specs.Order.{counted}
-use Rattle.ve_tx.specs.Many.{attrs_in, IsIndexed}
+use Rattle.ve_tx.specs.Many.{ordered, IsIndexed}
 use Rattle.ve_tx.proofs.ManyLemmas.{length-counted, whole_list}
 use Rattle.ve_tx.proofs.many.ManyAttrs.of.Goals as goal
 
@@ -19,4 +19,4 @@ returns c =
     let slots = c.args.attrs.items in
     let count : c.len-count.result ≡ length slots = omega (arith, c.len-count.ensures, c.args.attrs.ok) in
     let order : c.in_ok-order.order ≡ counted 0 (length slots) = c.in_ok-order.ensures ∙ ap (counted 0) count in
-    ap (attrs_in slots) order ∙ whole_list slots
+    ap (ordered slots) order ∙ whole_list slots

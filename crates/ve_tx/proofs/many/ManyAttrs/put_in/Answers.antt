@@ -1,7 +1,7 @@
 use Rattle.std.proofs.Common.{length, ◌++◌, ◌∷◌, take, drop, sym, ap, ◌∙◌, subst, arith}
 use Rattle.std.specs.BTreeMap.{get_by_text}
 use Rattle.model_change.specs.Attributes.{value_of, attr_added}
-use Rattle.ve_tx.specs.Many.{attrs_in, IsIndexed}
+use Rattle.ve_tx.specs.Many.{ordered, IsIndexed}
 use Rattle.ve_tx.proofs.ManyLemmas.{length-put, put_indexed, put_attrs}
 use Rattle.ve_tx.proofs.many.ManyAttrs.put_in.Goals as goal
 
@@ -27,7 +27,7 @@ returns c =
     let after = c.add_slot.new.slots.items in
     let order = c.self.inside.order in
     let number = c.in_ok-number.number in
-    ap (attrs_in after) c.in_ok-put_in.ensures.ok
-    ∙ ap (λ at. attrs_in after (take at order ++ number ∷ drop at order)) c.unwrap_or.ensures
+    ap (ordered after) c.in_ok-put_in.ensures.ok
+    ∙ ap (λ at. ordered after (take at order ++ number ∷ drop at order)) c.unwrap_or.ensures
     ∙ put_attrs slots after c.args.attr order c.args.kept c.self.inside.count number c.in_ok-number.ensures.slots c.in_ok-number.ensures.number c.self.invariant.1 (c.add_slot.ensures.attrs order c.self.invariant.0)
     ∙ ap (attr_added c.args.kept c.args.attr) c.self.view_is

@@ -3,7 +3,7 @@ use Rattle.std.specs.Str.{chars}
 use Rattle.std.specs.BTreeMap.{get_by_text}
 use Rattle.model_change.specs.Attributes.{value_of, attr_removed}
 use Rattle.ve_tx.specs.Order.{without}
-use Rattle.ve_tx.specs.Many.{attrs_in, IsIndexed}
+use Rattle.ve_tx.specs.Many.{ordered, IsIndexed}
 use Rattle.ve_tx.proofs.ManyLemmas.{is_found, taken_out, one_fewer, fewer}
 use Rattle.ve_tx.proofs.many.ManyAttrs.take_out.Goals as goal
 
@@ -33,4 +33,4 @@ returns c =
     let number = c.index-number.result.now in
     let spelled = ap chars (sym c.as_str.ensures.bytes) ∙ c.as_str.ensures.chars in
     let found = ap (get_by_text c.self.inside.numbers) (sym c.as_str.ensures.bytes) ∙ c.index-number.ensures in
-    ap (attrs_in c.self.inside.slots.items) c.take_out.ensures ∙ taken_out c.self.invariant.0 name number spelled found ∙ ap (attr_removed name) c.self.view_is
+    ap (ordered c.self.inside.slots.items) c.take_out.ensures ∙ taken_out c.self.invariant.0 name number spelled found ∙ ap (attr_removed name) c.self.view_is
