@@ -9,6 +9,7 @@ use Rattle.model_world.specs.Answers.{after_text, typing}
 use Rattle.model_world.specs.Edits.{BatchRefusal, batch_on}
 use Rattle.ve_tx.specs.declared.entry.Entry.{Entry}
 use Rattle.ve_editor.specs.Edited.{EntryCites, entry_by_value}
+use Rattle.ve_editor.specs.Page.{replica_of}
 use Rattle.ve_changes.specs.declared.faults.ChangeStop.{ChangeStop}
 use Rattle.ve_changes.specs.declared.faults.ChangeStop.TheVariants as one
 use Rattle.ve_changes.specs.declared.batch_stop.BatchStop.{BatchStop}
@@ -27,7 +28,7 @@ pub record IsMade (r : Replica) (meant : Result (List Transaction) BatchRefusal)
   pub cites : EntryCites new.store e
 
 abbrev pub IsBatch : Replica → Result (List Transaction) BatchRefusal → Batch → Type 0
-IsBatch r meant b = IsMade r meant b.editor b.entry
+IsBatch r meant b = IsMade r meant (replica_of b.editor) b.entry
 
 -- A refusal is the model's, with its position; memory may be wanting at any time.
 abbrev pub IsBatchRefused : Result (List Transaction) BatchRefusal → BatchStop → Type 0

@@ -7,6 +7,7 @@ ghost use Rattle.model_world.specs.Cost.{cost_of_made, made_in_turn, made_of};
 ghost use Rattle.model_world_law.specs.Fit.{AllWritten, IsWritten};
 ghost use Rattle.ve_changes.specs.Stops.{IsRefused};
 ghost use Rattle.ve_changes.specs.Batches.{IsBatch, IsBatchRefused, IsMade, IsPerformed, no_entry};
+ghost use Rattle.ve_editor.specs.Page.{replica_of};
 
 use crate::batch_stop::stop_at;
 use crate::{BatchStop, ChangeStop, change_draft};
@@ -35,13 +36,15 @@ fn perform_one<L: Ledger>(
 ) -> Result<Entry, ChangeStop>
     requires sound { Sound editor.old.items }
     requires written { IsWritten change.now }
-    ensures ok { IfOk result (IsPerformed editor.old (change_on editor.old change.now) editor.new) }
-    ensures refused { IfErr result (λ why. IsRefused why (change_on editor.old change.now)) }
+    ensures ok { IfOk result (
+        IsPerformed (replica_of editor.old) (change_on (replica_of editor.old) change.now)
+        (replica_of editor.new)) }
+    ensures refused { IfErr result (λ why. IsRefused why (change_on (replica_of editor.old) change.now)) }
     ensures counted { steps.old ≤ steps.new }
     ensures steps { IfErr result (λ stop. stop ≢ ChangeStop.Memory)
         → steps.new
         ≤ steps.old
-        + cost_of_transactions (made_of (change_on editor.old change.now)) editor.old.items }
+        + cost_of_transactions (made_of (change_on (replica_of editor.old) change.now)) editor.old.items }
 {
     // a change that was read and isn't refused may be performed
     layers_fit();
@@ -66,13 +69,14 @@ fn perform_each<L: Ledger>(
     requires written { AllWritten changes.now }
     requires nothing { entry.old ≡ no_entry (length editor.old.store) }
     ensures ok { OnOk result (
-        IsMade editor.old (batch_on editor.old changes.now) editor.new entry.new) }
-    ensures refused { IfErr result (IsBatchRefused (batch_on editor.old changes.now)) }
+        IsMade (replica_of editor.old) (batch_on (replica_of editor.old) changes.now)
+        (replica_of editor.new) entry.new) }
+    ensures refused { IfErr result (IsBatchRefused (batch_on (replica_of editor.old) changes.now)) }
     ensures counted { steps.old ≤ steps.new }
     ensures steps { IfErr result (λ stop. stop ≢ BatchStop.Memory)
         → steps.new
         ≤ steps.old
-        + cost_of_transactions (made_in_turn editor.old changes.now) editor.old.items }
+        + cost_of_transactions (made_in_turn (replica_of editor.old) changes.now) editor.old.items }
 {
     for at in 0..changes.len() {
         match perform_one(alloc, editor, &changes[at], steps) {
@@ -104,12 +108,14 @@ fn perform_on<L: Ledger>(
 ) -> Result<Batch, BatchStop>
     requires sound { Sound editor.items }
     requires written { AllWritten changes.now }
-    ensures ok { IfOk result (IsBatch editor (batch_on editor changes.now)) }
-    ensures refused { IfErr result (IsBatchRefused (batch_on editor changes.now)) }
+    ensures ok { IfOk result (
+        IsBatch (replica_of editor) (batch_on (replica_of editor) changes.now)) }
+    ensures refused { IfErr result (IsBatchRefused (batch_on (replica_of editor) changes.now)) }
     ensures counted { steps.old ≤ steps.new }
     ensures steps { IfErr result (λ stop. stop ≢ BatchStop.Memory)
         → steps.new
-        ≤ steps.old + cost_of_transactions (made_in_turn editor changes.now) editor.items }
+        ≤ steps.old
+        + cost_of_transactions (made_in_turn (replica_of editor) changes.now) editor.items }
 {
     let mut entry = nothing_yet(alloc, &editor);
     match perform_each(alloc, &mut editor, &mut entry, changes, steps) {
@@ -132,12 +138,14 @@ pub fn perform_all<L: Ledger>(
 ) -> Result<Batch, BatchStop>
     requires sound { Sound editor.now.items }
     requires written { AllWritten changes.now }
-    ensures ok { IfOk result (IsBatch editor.now (batch_on editor.now changes.now)) }
-    ensures refused { IfErr result (IsBatchRefused (batch_on editor.now changes.now)) }
+    ensures ok { IfOk result (
+        IsBatch (replica_of editor.now) (batch_on (replica_of editor.now) changes.now)) }
+    ensures refused { IfErr result (IsBatchRefused (batch_on (replica_of editor.now) changes.now)) }
     ensures counted { steps.old ≤ steps.new }
     ensures steps { IfErr result (λ stop. stop ≢ BatchStop.Memory)
         → steps.new
-        ≤ steps.old + cost_of_made true (made_in_turn editor.now changes.now) editor.now.items }
+        ≤ steps.old
+        + cost_of_made true (made_in_turn (replica_of editor.now) changes.now) editor.now.items }
 {
     let copy = editor.copy(steps)?;
     perform_on(alloc, copy, changes, steps)

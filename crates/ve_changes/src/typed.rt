@@ -6,6 +6,7 @@ ghost use Rattle.model_world.specs.Answers as model;
 ghost use Rattle.model_world.specs.Edits.{batch_on};
 ghost use Rattle.model_world.specs.Cost.{cost_of_made, made_in_turn};
 ghost use Rattle.ve_changes.specs.Batches.{IsBatch, IsBatchRefused, IsTyped};
+ghost use Rattle.ve_editor.specs.Page.{replica_of};
 
 use crate::BatchStop;
 use crate::batch::{Batch, perform_all};
@@ -69,15 +70,15 @@ pub fn type_text<L: Ledger>(
     steps: &mut Steps<L>,
 ) -> Result<Typed, BatchStop>
     requires sound { Sound editor.now.items }
-    ensures ok { IfOk result (IsTyped editor.now text.now) }
+    ensures ok { IfOk result (IsTyped (replica_of editor.now) text.now) }
     ensures refused { IfErr result (
-        IsBatchRefused (batch_on editor.now (model.typing editor.now.selection text.now))) }
+        IsBatchRefused (batch_on (replica_of editor.now) (model.typing editor.now.selection text.now))) }
     ensures counted { steps.old ≤ steps.new }
     ensures steps { IfErr result (λ stop. stop ≢ BatchStop.Memory)
         → steps.new
         ≤ steps.old
         + cost_of_made true (
-        made_in_turn editor.now (model.typing editor.now.selection text.now)) editor.now.items }
+        made_in_turn (replica_of editor.now) (model.typing editor.now.selection text.now)) editor.now.items }
 {
     let changes = typing(alloc, editor.selection(), text)?;
     match perform_all(alloc, editor, changes.as_slice(), steps) {

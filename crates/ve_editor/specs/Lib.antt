@@ -10,6 +10,7 @@ pub use Rattle.ve_tx.specs.Cites
 pub use Rattle.ve_tx.specs.ByValue
 pub use Rattle.ve_tree.specs.TreeOf
 pub mod Page
+pub mod Stays
 pub mod Edited
 pub mod Counted
 pub mod Refusal

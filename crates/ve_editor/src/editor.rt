@@ -30,7 +30,8 @@ use ve_tree::Tree;
 use ve_tx::{Draft, Entry, Parcel, Transaction, TxList};
 
 /// A page's list, the values that its items cite, the tree of the list, and the selection. The view
-/// is a site's replica: the list by value, the store as its values, and the selection.
+/// has what a site's replica has (the list by value, the store as its values, and the selection)
+/// and the tree's nodes by their numbers.
 #[derive(Drop)]
 pub struct Editor {
     list: Linear,
@@ -41,18 +42,18 @@ pub struct Editor {
 }
 
 impl Model for Editor {
-    ghost use Rattle.model_site.specs.Replica.{Replica};
-    ghost use Rattle.ve_editor.specs.Page.{IsPage, page_of};
+    ghost use Rattle.ve_editor.specs.Page.{IsPage, LinkedPage, linked_page, nodes_of_tree, page_of};
 
-    ghost Value = { Replica };
+    ghost Value = { LinkedPage };
 
-    ghost view = { λ e. page_of e.store e.list.items e.selection };
+    ghost view = { λ e. linked_page (page_of e.store e.list.items e.selection) (nodes_of_tree e.tree) };
 
     ghost invariant = { λ e. IsPage e.store e.list.items e.tree };
 }
 
 impl Editor {
-    ghost use Rattle.ve_editor.specs.Page.{IsPage, page_of};
+    ghost use Rattle.ve_editor.specs.Page.{IsPage, page_of, replica_of, nodes_of_tree};
+    ghost use Rattle.ve_editor.specs.Stays.{IsUnchanged, NumbersStay, NumbersStayOver};
     ghost use Rattle.ve_editor.specs.Edited.{IsDraftOf, drafted, entry_by_value, EntryCites, AllStand, CanBeReverted, CutsUncited, IsUncited, reversal_over};
     ghost use Rattle.ve_tx.specs.ByValue.{parcel_by_value, ParcelCites};
     ghost use Rattle.ve_editor.specs.Refusal.{IsEditRefusal};
@@ -69,7 +70,8 @@ impl Editor {
     ) -> Result<Editor, Memory>
         requires lawful { Lawful (unvalued list.items) }
         requires cites { All (CitesWell store) list.items }
-        ensures ok { IfOk result (λ editor. editor ≡ page_of store list.items (between 0 0)) }
+        ensures ok { IfOk result (λ editor.
+            replica_of editor ≡ page_of store list.items (between 0 0)) }
         ensures counted { steps.old ≤ steps.new }
         ensures steps { steps.new ≤ steps.old + cost_of_tree (plain_list store list.items) }
     {
@@ -111,6 +113,7 @@ impl Editor {
         ensures items { plain_list self.now.store result.list.now.items ≡ self.now.items }
         ensures store { result.store.now ≡ self.now.store }
         ensures page { IsPage self.now.store result.list.now.items result.tree.now }
+        ensures nodes { nodes_of_tree result.tree.now ≡ self.now.nodes }
     {
         Doc {
             list: &self.list,
@@ -144,7 +147,7 @@ impl Editor {
     ///
     /// Nodes are written, made or let go only where no cause refuses it: in at most eight steps for
     /// each node that the transaction touches, and sixteen more. Nodes that stay keep their
-    /// numbers, as `ready` and `relink` say.
+    /// numbers.
     pub fn perform<L: Ledger>(
         &mut self,
         draft: &Draft,
@@ -152,16 +155,21 @@ impl Editor {
     ) -> Result<Entry, EditFault>
         requires draft { IsDraftOf self.old.store draft.now }
         ensures allowed { OnOk result (
-            edit_cause (drafted self.old.store draft.now) self.old ≡ None) }
+            edit_cause (drafted self.old.store draft.now) (replica_of self.old) ≡ None) }
         ensures page { OnOk result (
-            self.new ≡ performed (drafted self.old.store draft.now) self.old) }
+            replica_of self.new
+            ≡ performed (drafted self.old.store draft.now) (replica_of self.old)) }
+        ensures numbers { OnOk result (
+            NumbersStay (drafted self.old.store draft.now) self.old.items self.old.nodes
+            self.new.nodes) }
         ensures entry { IfOk result (λ entry.
             entry_by_value self.new.store entry
-            ≡ entry_of (drafted self.old.store draft.now ∷ []) self.old) }
+            ≡ entry_of (drafted self.old.store draft.now ∷ []) (replica_of self.old)) }
         ensures cites { IfOk result (EntryCites self.new.store) }
         ensures refused { IfErr result (
-            IsEditRefusal (edit_cause (drafted self.old.store draft.now) self.old)) }
-        ensures kept { OnErr result (self.new ≡ self.old) }
+            IsEditRefusal (
+            edit_cause (drafted self.old.store draft.now) (replica_of self.old))) }
+        ensures kept { OnErr result (IsUnchanged self.old self.new) }
         ensures counted { steps.old ≤ steps.new }
         ensures steps { steps.new
             ≤ steps.old + cost_of_transaction (drafted self.old.store draft.now) self.old.items }
@@ -203,8 +211,13 @@ impl Editor {
         requires cites { TxCites self.old.store tx.now }
         requires applies { Applies (by_value self.old.store tx.now) self.old.items }
         requires lawful { Lawful (edited (by_value self.old.store tx.now) self.old.items) }
-        ensures page { OnOk result (self.new ≡ put_back (by_value self.old.store tx.now) self.old) }
-        ensures kept { OnErr result (self.new ≡ self.old) }
+        ensures page { OnOk result (
+            replica_of self.new
+            ≡ put_back (by_value self.old.store tx.now) (replica_of self.old)) }
+        ensures numbers { OnOk result (
+            NumbersStay (by_value self.old.store tx.now) self.old.items self.old.nodes
+            self.new.nodes) }
+        ensures kept { OnErr result (IsUnchanged self.old self.new) }
         ensures counted { steps.old ≤ steps.new }
         ensures steps { steps.new
             ≤ steps.old + cost_of_transaction (by_value self.old.store tx.now) self.old.items }
@@ -239,7 +252,8 @@ impl Editor {
     /// taken back the store had so many.
     pub(crate) fn cut_back(&mut self, entry: &Entry, was: usize)
         requires distinct { AreDistinct self.old.store }
-        requires uncited { IsUncited (entry_by_value self.old.store entry.now) was self.old }
+        requires uncited {
+            IsUncited (entry_by_value self.old.store entry.now) was (replica_of self.old) }
         ensures { self.new ≡ record self.old {
           store = cut_back (entry_by_value self.old.store entry.now) was self.old.store;
         } }
@@ -259,8 +273,12 @@ impl Editor {
         requires cites { All (TxCites self.old.store) txs.now }
         requires stands { AllStand (reversal_over self.old.store txs.now) self.old.items }
         ensures page { OnOk result (
-            self.new ≡ all_put_back (reversal_over self.old.store txs.now) self.old) }
-        ensures kept { OnErr result (self.new ≡ self.old) }
+            replica_of self.new
+            ≡ all_put_back (reversal_over self.old.store txs.now) (replica_of self.old)) }
+        ensures numbers { OnOk result (
+            NumbersStayOver (reversal_over self.old.store txs.now) self.old.items self.old.nodes
+            self.new.nodes) }
+        ensures kept { OnErr result (IsUnchanged self.old self.new) }
         ensures counted { steps.old ≤ steps.new }
         ensures steps { steps.new
             ≤ steps.old + steps_over (reversal_over self.old.store txs.now) self.old.items }
@@ -289,12 +307,16 @@ impl Editor {
         requires cites { TxCites values.now tx.now }
         requires applies { Applies (by_value values.now tx.now) self.old.items }
         requires lawful { Lawful (edited (by_value values.now tx.now) self.old.items) }
-        ensures page { OnOk result (self.new ≡ performed (by_value values.now tx.now) self.old) }
+        ensures page { OnOk result (
+            replica_of self.new ≡ performed (by_value values.now tx.now) (replica_of self.old)) }
+        ensures numbers { OnOk result (
+            NumbersStay (by_value values.now tx.now) self.old.items self.old.nodes
+            self.new.nodes) }
         ensures txs { IfOk result (λ txs.
             map (by_value self.new.store) txs
             ≡ filled (by_value values.now tx.now) self.old.items ∷ []) }
         ensures cites { IfOk result (λ txs. All (TxCites self.new.store) txs) }
-        ensures kept { OnErr result (self.new ≡ self.old) }
+        ensures kept { OnErr result (IsUnchanged self.old self.new) }
         ensures counted { steps.old ≤ steps.new }
         ensures steps { steps.new
             ≤ steps.old + cost_of_transaction (by_value values.now tx.now) self.old.items }
@@ -339,12 +361,16 @@ impl Editor {
         requires cites { All (TxCites values.now) txs.now }
         requires stands { AllStand (map (by_value values.now) txs.now) self.old.items }
         ensures page { OnOk result (
-            self.new ≡ all_performed (map (by_value values.now) txs.now) self.old) }
+            replica_of self.new
+            ≡ all_performed (map (by_value values.now) txs.now) (replica_of self.old)) }
+        ensures numbers { OnOk result (
+            NumbersStayOver (map (by_value values.now) txs.now) self.old.items self.old.nodes
+            self.new.nodes) }
         ensures txs { IfOk result (λ kept.
             map (by_value self.new.store) kept
             ≡ all_filled (map (by_value values.now) txs.now) self.old.items) }
         ensures cites { IfOk result (λ kept. All (TxCites self.new.store) kept) }
-        ensures kept { OnErr result (self.new ≡ self.old) }
+        ensures kept { OnErr result (IsUnchanged self.old self.new) }
         ensures counted { steps.old ≤ steps.new }
         ensures steps { steps.new
             ≤ steps.old + steps_over (map (by_value values.now) txs.now) self.old.items }
@@ -374,12 +400,16 @@ impl Editor {
         requires cites { ParcelCites parcel.now }
         requires stands { AllStand (parcel_by_value parcel.now) self.old.items }
         ensures page { OnOk result (
-            self.new ≡ all_performed (parcel_by_value parcel.now) self.old) }
+            replica_of self.new
+            ≡ all_performed (parcel_by_value parcel.now) (replica_of self.old)) }
+        ensures numbers { OnOk result (
+            NumbersStayOver (parcel_by_value parcel.now) self.old.items self.old.nodes
+            self.new.nodes) }
         ensures entry { IfOk result (λ entry.
             entry_by_value self.new.store entry
-            ≡ entry_of (parcel_by_value parcel.now) self.old) }
+            ≡ entry_of (parcel_by_value parcel.now) (replica_of self.old)) }
         ensures cites { IfOk result (EntryCites self.new.store) }
-        ensures kept { OnErr result (self.new ≡ self.old) }
+        ensures kept { OnErr result (IsUnchanged self.old self.new) }
         ensures counted { steps.old ≤ steps.new }
         ensures steps { steps.new
             ≤ steps.old + steps_over (parcel_by_value parcel.now) self.old.items }
@@ -399,11 +429,17 @@ impl Editor {
     /// Where values are cut, the list that is left may cite none of them. An `Err` changes nothing.
     pub fn revert<L: Ledger>(&mut self, entry: &Entry, steps: &mut Steps<L>) -> Result<(), Memory>
         requires cites { EntryCites self.old.store entry.now }
-        requires stands { CanBeReverted (entry_by_value self.old.store entry.now) self.old }
-        requires uncited { CutsUncited (entry_by_value self.old.store entry.now) self.old }
+        requires stands {
+            CanBeReverted (entry_by_value self.old.store entry.now) (replica_of self.old) }
+        requires uncited {
+            CutsUncited (entry_by_value self.old.store entry.now) (replica_of self.old) }
         ensures page { OnOk result (
-            self.new ≡ reverted (entry_by_value self.old.store entry.now) self.old) }
-        ensures kept { OnErr result (self.new ≡ self.old) }
+            replica_of self.new
+            ≡ reverted (entry_by_value self.old.store entry.now) (replica_of self.old)) }
+        ensures numbers { OnOk result (
+            NumbersStayOver (reversal_over self.old.store entry.now.txs) self.old.items
+            self.old.nodes self.new.nodes) }
+        ensures kept { OnErr result (IsUnchanged self.old self.new) }
         ensures counted { steps.old ≤ steps.new }
         ensures steps { steps.new
             ≤ steps.old + steps_over (reversal_over self.old.store entry.now.txs) self.old.items }

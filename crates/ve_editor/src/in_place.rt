@@ -7,6 +7,8 @@ ghost use Rattle.ve_tx.specs.ByValue.{parcel_by_value, ParcelCites};
 ghost use Rattle.ve_tx.specs.Cites.{TxCites};
 ghost use Rattle.ve_tx.specs.Operation.{by_value};
 ghost use Rattle.model_change.specs.Cost.{cost_of_transactions};
+ghost use Rattle.ve_editor.specs.Page.{replica_of};
+ghost use Rattle.ve_editor.specs.Stays.{NumbersStayOver};
 ghost use Rattle.ve_editor.specs.Edited.{entry_by_value, EntryCites, AllStand, CanBeReverted, CutsUncited, reversal_over};
 
 use crate::Editor;
@@ -25,7 +27,11 @@ impl Editor {
         requires cites { All (TxCites self.old.store) txs.now }
         requires stands { AllStand (reversal_over self.old.store txs.now) self.old.items }
         ensures page { OnOk result (
-            self.new ≡ all_put_back (reversal_over self.old.store txs.now) self.old) }
+            replica_of self.new
+            ≡ all_put_back (reversal_over self.old.store txs.now) (replica_of self.old)) }
+        ensures numbers { OnOk result (
+            NumbersStayOver (reversal_over self.old.store txs.now) self.old.items self.old.nodes
+            self.new.nodes) }
         ensures counted { steps.old ≤ steps.new }
         ensures steps { steps.new
             ≤ steps.old + cost_of_transactions (reversal_over self.old.store txs.now) self.old.items }
@@ -49,7 +55,11 @@ impl Editor {
         requires cites { All (TxCites values.now) txs.now }
         requires stands { AllStand (map (by_value values.now) txs.now) self.old.items }
         ensures page { OnOk result (
-            self.new ≡ all_performed (map (by_value values.now) txs.now) self.old) }
+            replica_of self.new
+            ≡ all_performed (map (by_value values.now) txs.now) (replica_of self.old)) }
+        ensures numbers { OnOk result (
+            NumbersStayOver (map (by_value values.now) txs.now) self.old.items self.old.nodes
+            self.new.nodes) }
         ensures txs { IfOk result (λ kept.
             map (by_value self.new.store) kept
             ≡ all_filled (map (by_value values.now) txs.now) self.old.items) }
@@ -76,10 +86,14 @@ impl Editor {
         requires cites { ParcelCites parcel.now }
         requires stands { AllStand (parcel_by_value parcel.now) self.old.items }
         ensures page { OnOk result (
-            self.new ≡ all_performed (parcel_by_value parcel.now) self.old) }
+            replica_of self.new
+            ≡ all_performed (parcel_by_value parcel.now) (replica_of self.old)) }
+        ensures numbers { OnOk result (
+            NumbersStayOver (parcel_by_value parcel.now) self.old.items self.old.nodes
+            self.new.nodes) }
         ensures entry { IfOk result (λ entry.
             entry_by_value self.new.store entry
-            ≡ entry_of (parcel_by_value parcel.now) self.old) }
+            ≡ entry_of (parcel_by_value parcel.now) (replica_of self.old)) }
         ensures cites { IfOk result (EntryCites self.new.store) }
         ensures counted { steps.old ≤ steps.new }
         ensures steps { steps.new
@@ -106,10 +120,16 @@ impl Editor {
         steps: &mut Steps<L>,
     ) -> Result<(), Memory>
         requires cites { EntryCites self.old.store entry.now }
-        requires stands { CanBeReverted (entry_by_value self.old.store entry.now) self.old }
-        requires uncited { CutsUncited (entry_by_value self.old.store entry.now) self.old }
+        requires stands {
+            CanBeReverted (entry_by_value self.old.store entry.now) (replica_of self.old) }
+        requires uncited {
+            CutsUncited (entry_by_value self.old.store entry.now) (replica_of self.old) }
         ensures page { OnOk result (
-            self.new ≡ reverted (entry_by_value self.old.store entry.now) self.old) }
+            replica_of self.new
+            ≡ reverted (entry_by_value self.old.store entry.now) (replica_of self.old)) }
+        ensures numbers { OnOk result (
+            NumbersStayOver (reversal_over self.old.store entry.now.txs) self.old.items
+            self.old.nodes self.new.nodes) }
         ensures counted { steps.old ≤ steps.new }
         ensures steps { steps.new
             ≤ steps.old + cost_of_transactions (reversal_over self.old.store entry.now.txs) self.old.items }

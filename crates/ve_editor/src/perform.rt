@@ -16,7 +16,7 @@ ghost use Rattle.ve_tx.specs.Making.{Extends};
 ghost use Rattle.ve_tx.specs.Operation.{by_value};
 ghost use Rattle.ve_repair.specs.Change.{LawfulAfter};
 ghost use Rattle.ve_repair.specs.Kept.{KeepsNumbers};
-ghost use Rattle.ve_repair.specs.Repaired.{IsTreeOfAfter, IsWithinTouch};
+ghost use Rattle.ve_repair.specs.Repaired.{IsTreeOfAfter, IsWithinTouch, SameNodes};
 ghost use Rattle.model_change.specs.Cost.{cost_of_transaction};
 ghost use Rattle.ve_editor.specs.Edited.{IsDraftOf, drafted};
 ghost use Rattle.ve_editor.specs.Page.{IsPage, page_of};
@@ -123,7 +123,9 @@ fn with_entry<L: Ledger>(
     ensures tree { OnOk result (IsTreeOfAfter tree.new tx.now list.now.items) }
     ensures numbers { OnOk result (
         KeepsNumbers tree.old.arena tree.new.arena tree.old.root tx.now list.now.items) }
+    ensures root { tree.new.root ≡ tree.old.root }
     ensures kept { OnErr result (IsTreeOf tree.new (unvalued list.now.items)) }
+    ensures same { OnErr result (SameNodes tree.old.arena tree.new.arena) }
     ensures counted { steps.old ≤ steps.new }
     ensures steps { IsWithinTouch steps.old steps.new tx.now list.now.items }
 {
@@ -153,7 +155,9 @@ pub fn ready<L: Ledger>(
         IsEditRefusal (
         edit_cause (drafted store.old draft.now) (
         page_of store.old list.old.items (between 0 0)))) }
+    ensures root { tree.new.root ≡ tree.old.root }
     ensures kept { OnErr result (IsTreeOf tree.new (unvalued list.old.items)) }
+    ensures same { OnErr result (SameNodes tree.old.arena tree.new.arena) }
     ensures items { list.new.items ≡ list.old.items }
     ensures extends { Extends store.old store.new }
     ensures counted { steps.old ≤ steps.new }
@@ -207,7 +211,9 @@ pub fn ready_back<L: Ledger>(
         IsReadyBack (by_value store.old tx.now) store.old store.new list.new tree.new) }
     ensures numbers { OnOk result (
         KeepsNumbers tree.old.arena tree.new.arena tree.old.root tx.now list.old.items) }
+    ensures root { tree.new.root ≡ tree.old.root }
     ensures kept { OnErr result (IsTreeOf tree.new (unvalued list.old.items)) }
+    ensures same { OnErr result (SameNodes tree.old.arena tree.new.arena) }
     ensures items { list.new.items ≡ list.old.items }
     ensures extends { Extends store.old store.new }
     ensures counted { steps.old ≤ steps.new }
@@ -243,7 +249,9 @@ pub fn ready_other<L: Ledger>(
         edited (by_value values.now tx.now) (plain_list store.old list.old.items)) }
     ensures ok { IfOk result (
         IsReadyOther (by_value values.now tx.now) store.old store.new list.new tree.new) }
+    ensures root { tree.new.root ≡ tree.old.root }
     ensures kept { OnErr result (IsTreeOf tree.new (unvalued list.old.items)) }
+    ensures same { OnErr result (SameNodes tree.old.arena tree.new.arena) }
     ensures items { list.new.items ≡ list.old.items }
     ensures extends { Extends store.old store.new }
     ensures counted { steps.old ≤ steps.new }

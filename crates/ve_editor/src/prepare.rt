@@ -3,7 +3,7 @@
 ghost use Rattle.std.specs.Prelude.{◌≡◌, ◌≤◌, OnOk, OnErr};
 ghost use Rattle.ve_repair.specs.Change.{CanApply, LawfulAfter};
 ghost use Rattle.ve_repair.specs.Kept.{KeepsNumbers};
-ghost use Rattle.ve_repair.specs.Repaired.{IsTreeOfAfter, IsWithinTouch};
+ghost use Rattle.ve_repair.specs.Repaired.{IsTreeOfAfter, IsWithinTouch, SameNodes};
 ghost use Rattle.ve_tree.specs.IsTree.{unvalued};
 ghost use Rattle.ve_tree.specs.TreeOf.{IsTreeOf};
 ghost use Rattle.ve_tx.specs.Spliced.{spliced_by};
@@ -33,7 +33,9 @@ pub fn prepare<L: Ledger>(
     ensures tree { OnOk result (IsTreeOfAfter tree.new tx.now list.now.items) }
     ensures numbers { OnOk result (
         KeepsNumbers tree.old.arena tree.new.arena tree.old.root tx.now list.now.items) }
+    ensures root { tree.new.root ≡ tree.old.root }
     ensures kept { OnErr result (IsTreeOf tree.new (unvalued list.now.items)) }
+    ensures same { OnErr result (SameNodes tree.old.arena tree.new.arena) }
     ensures counted { steps.old ≤ steps.new }
     ensures steps { IsWithinTouch steps.old steps.new tx.now list.now.items }
 {

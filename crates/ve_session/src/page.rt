@@ -9,6 +9,7 @@ ghost use Rattle.ve_changes.specs.Stops.{IsRefused};
 ghost use Rattle.ve_read.specs.Pages.{HasPlaces, IsReadPage};
 ghost use Rattle.ve_session.specs.Asked.{is_shown, reply_and_world, IsAsked};
 ghost use Rattle.ve_session.specs.Opened.{world_on, HasUtf8Page, IsLed, MayOpen};
+ghost use Rattle.ve_editor.specs.Page.{replica_of};
 
 use crate::edits::doc_at;
 use crate::ends::{ends_within, known_at};
@@ -140,7 +141,7 @@ impl OpenPage {
     pub fn editor(&self, k: usize) -> &Editor
         requires site { k < length self.now.session.members }
         ensures { option_map (λ m. m.site.replica) (slice_get self.now.session.members k)
-            ≡ Some result.now }
+            ≡ Some (replica_of result.now) }
     {
         self.session.site(k).editor()
     }

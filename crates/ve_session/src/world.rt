@@ -8,6 +8,7 @@ ghost use Rattle.ve_run.specs.Run.{reply_line};
 ghost use Rattle.ve_session.specs.Asked.{reply_and_world, IsAsked};
 ghost use Rattle.ve_session.specs.Opened.{replica_in, HasUtf8Page, IsLed};
 ghost use Rattle.ve_session.specs.States.{after, closed_state, spent_state};
+ghost use Rattle.ve_editor.specs.Page.{replica_of};
 
 use crate::page::OpenPage;
 use std::alloc::Global;
@@ -67,7 +68,7 @@ impl World {
 
     /// Lends the editor of a site: None where no page is open, and where the site is none.
     pub fn editor(&self, site: usize) -> Option<&Editor>
-        ensures { option_map (λ editor. editor.now) result ≡ replica_in self.now.world site }
+        ensures { option_map (λ editor. replica_of editor.now) result ≡ replica_in self.now.world site }
     {
         match &self.page {
             Some(page) if site < page.sites() => Some(page.editor(site)),

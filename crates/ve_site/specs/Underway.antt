@@ -7,6 +7,7 @@ use Rattle.model_change.specs.Cost.{cost_of_transactions}
 use Rattle.model_items.specs.Cost.{cost_of_tree}
 use Rattle.ve_tx.specs.declared.parcel.Parcel.{Parcel}
 use Rattle.ve_tx.specs.ByValue.{parcel_by_value}
+use Rattle.ve_editor.specs.Page.{replica_of}
 use Rattle.ve_site.specs.declared.taking.Taking.{Taking}
 use Rattle.ve_site.specs.Dropped.{only_done}
 use Rattle.ve_site.specs.Numbered.{Numbered, site_of, with_site, IsSite}
@@ -15,11 +16,11 @@ use Rattle.ve_site.specs.Taking.{steps_of_feed}
 
 -- what it would be as a site
 abbrev pub taking_site : Taking → Site
-taking_site t = site_of t.editor t.untold t.seen t.sent.items (only_done t.unsent) t.shared t.in_flight
+taking_site t = site_of (replica_of t.editor) t.untold t.seen t.sent.items (only_done t.unsent) t.shared t.in_flight
 
 -- it keeps the invariant of a site
 abbrev pub IsTaking : Taking → Type 0
-IsTaking t = IsSite t.editor t.seen t.sent.items (only_done t.unsent) t.shared t.in_flight
+IsTaking t = IsSite (replica_of t.editor) t.seen t.sent.items (only_done t.unsent) t.shared t.in_flight
 
 -- the first so many of these entries are taken
 pub record HaveTaken (parcels : List Parcel) (old : Taking) (count : ℕ) (new : Taking) : Type 0 where

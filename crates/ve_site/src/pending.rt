@@ -8,6 +8,7 @@ ghost use Rattle.ve_tx.specs.ByValue.{parcel_by_value, ParcelCites};
 ghost use Rattle.model_change.specs.Cost.{cost_of_transactions};
 ghost use Rattle.ve_editor.specs.Edited.{AllStand, entry_by_value};
 ghost use Rattle.ve_site.specs.Dropped.{AreDropped, IsAdmitted, IsStack, back_over, numbered_alike};
+ghost use Rattle.ve_editor.specs.Page.{replica_of};
 
 use crate::untold::Untold;
 use std::alloc::Global;
@@ -27,12 +28,12 @@ fn take_back<L: Ledger>(
     left: usize,
     steps: &mut Steps<L>,
 ) -> Result<(), Memory>
-    requires stack { IsStack editor.old (sent.now ++ unsent.now) }
+    requires stack { IsStack (replica_of editor.old) (sent.now ++ unsent.now) }
     requires count { count ≡ length (sent.now ++ unsent.now) }
     requires left { left ≤ count }
     ensures dropped { OnOk result (
-        AreDropped editor.old (take left (sent.now ++ unsent.now))
-        (drop left (sent.now ++ unsent.now)) editor.new) }
+        AreDropped (replica_of editor.old) (take left (sent.now ++ unsent.now))
+        (drop left (sent.now ++ unsent.now)) (replica_of editor.new)) }
     ensures counted { steps.old ≤ steps.new }
     ensures steps { steps.new
         ≤ steps.old
@@ -57,14 +58,14 @@ pub fn admit_under<L: Ledger>(
     committed: &Parcel,
     steps: &mut Steps<L>,
 ) -> Result<usize, Memory>
-    requires stack { IsStack editor.old (sent.now ++ unsent.now) }
+    requires stack { IsStack (replica_of editor.old) (sent.now ++ unsent.now) }
     requires left { left ≤ length (sent.now ++ unsent.now) }
     requires cites { ParcelCites committed.now }
     requires stands { AllStand (parcel_by_value committed.now)
-        (all_reverted (map (entry_by_value editor.old.store) (drop left (sent.now ++ unsent.now))) editor.old).items }
+        (all_reverted (map (entry_by_value editor.old.store) (drop left (sent.now ++ unsent.now))) (replica_of editor.old)).items }
     ensures admitted { OnOk result (
-        IsAdmitted editor.old (sent.now ++ unsent.now) left (parcel_by_value committed.now)
-        editor.new) }
+        IsAdmitted (replica_of editor.old) (sent.now ++ unsent.now) left (parcel_by_value committed.now)
+        (replica_of editor.new)) }
     ensures stored { IfOk result (λ stored. stored ≡ length editor.new.store) }
     ensures counted { steps.old ≤ steps.new }
     ensures steps { steps.new
@@ -91,7 +92,7 @@ pub fn admit_each<L: Ledger>(
     requires cite { All ParcelCites parcels.now }
     requires stand { AllStand (flattened (map parcel_by_value parcels.now)) editor.old.items }
     ensures page { OnOk result (
-        editor.new ≡ all_performed (flattened (map parcel_by_value parcels.now)) editor.old) }
+        (replica_of editor.new) ≡ all_performed (flattened (map parcel_by_value parcels.now)) (replica_of editor.old)) }
     ensures counted { steps.old ≤ steps.new }
     ensures steps { steps.new
         ≤ steps.old

@@ -43,13 +43,14 @@ pub struct Site {
 }
 
 impl Model for Site {
+    ghost use Rattle.ve_editor.specs.Page.{replica_of};
     ghost use Rattle.ve_site.specs.Numbered.{Numbered, site_of, IsSite};
 
     ghost Value = { Numbered };
 
-    ghost view = { λ s. record { number = s.number; site = site_of s.editor s.untold s.seen s.sent.items s.history s.shared s.in_flight } };
+    ghost view = { λ s. record { number = s.number; site = site_of (replica_of s.editor) s.untold s.seen s.sent.items s.history s.shared s.in_flight } };
 
-    ghost invariant = { λ s. IsSite s.editor s.seen s.sent.items s.history s.shared s.in_flight };
+    ghost invariant = { λ s. IsSite (replica_of s.editor) s.seen s.sent.items s.history s.shared s.in_flight };
 }
 
 /// Why a site that has nothing unsent undoes nothing, where it sent so many entries.
@@ -65,7 +66,7 @@ fn nothing_to_undo(sent: usize) -> UndoFault
 
 impl Site {
     ghost use Rattle.ve_editor.specs.Edited.{IsDraftOf, drafted, entry_by_value, EntryCites};
-    ghost use Rattle.ve_editor.specs.Page.{IsPage};
+    ghost use Rattle.ve_editor.specs.Page.{IsPage, replica_of};
     ghost use Rattle.ve_editor.specs.Refusal.{IsEditRefusal};
     ghost use Rattle.ve_offsets.specs.Docs.{page_items};
     ghost use Rattle.model_change.specs.Cost.{cost_of_transactions};
@@ -84,7 +85,7 @@ impl Site {
         requires sound { Sound editor.items }
         requires selection { StandsIn editor.items editor.selection }
         ensures { IfOk result (λ site.
-            site ≡ record { number = number; site = starting editor }) }
+            site ≡ record { number = number; site = starting (replica_of editor) }) }
     {
         let untold = Untold::new(alloc, editor.doc().list.len())?;
         Ok(Site {
@@ -109,7 +110,7 @@ impl Site {
 
     /// Lends the editor.
     pub fn editor(&self) -> &Editor
-        ensures { result.now ≡ self.now.site.replica }
+        ensures { replica_of result.now ≡ self.now.site.replica }
     {
         &self.editor
     }
@@ -201,9 +202,9 @@ impl Site {
     /// are edits that were performed one after the other and are one, as a batch is. The undone
     /// entries can't be redone then. An `Err` changes nothing.
     pub fn settle(&mut self, editor: Editor, entry: Entry) -> Result<(), Memory>
-        requires settles { Settles self.old.site.replica editor entry }
+        requires settles { Settles self.old.site.replica (replica_of editor) entry }
         ensures site { OnOk result (
-            self.new ≡ with_site (with_new_entry editor entry self.old.site) self.old) }
+            self.new ≡ with_site (with_new_entry (replica_of editor) entry self.old.site) self.old) }
         ensures kept { OnErr result (self.new ≡ self.old) }
     {
         self.history.reserve()?;

@@ -14,6 +14,7 @@ ghost use Rattle.model_site.specs.Made.{redoing, undoing, revoking};
 ghost use Rattle.ve_site.specs.Refusal.{IsRedoRefusal, IsUndoRefusal};
 ghost use Rattle.ve_site.specs.Settled.{with_new_entry, Settles};
 ghost use Rattle.ve_sites.specs.Shared.{site_at, sites, with_site_at};
+ghost use Rattle.ve_editor.specs.Page.{replica_of};
 
 use crate::Sites;
 use model_edit::Selection;
@@ -78,10 +79,10 @@ impl Sites {
     /// nothing.
     pub fn settle(&mut self, k: usize, editor: Editor, entry: Entry) -> Result<(), Memory>
         requires site { k < sites self.old }
-        requires settles { Settles (site_at self.old k).replica editor entry }
+        requires settles { Settles (site_at self.old k).replica (replica_of editor) entry }
         ensures site { OnOk result (
             self.new
-            ≡ with_site_at k (with_new_entry editor entry (site_at self.old k)) self.old) }
+            ≡ with_site_at k (with_new_entry (replica_of editor) entry (site_at self.old k)) self.old) }
         ensures kept { OnErr result (self.new ≡ self.old) }
     {
         self.members[k].settle(editor, entry)

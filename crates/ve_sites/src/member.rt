@@ -17,6 +17,7 @@ ghost use Rattle.ve_site.specs.Settled.{with_new_entry, Settles};
 ghost use Rattle.ve_site.specs.Taking.{MayTake, steps_of_take};
 ghost use Rattle.ve_sites.specs.Senders.{at_site, HasGone};
 ghost use Rattle.ve_tx.specs.ByValue.{parcel_by_value, ParcelCites};
+ghost use Rattle.ve_editor.specs.Page.{replica_of};
 
 use model_edit::Selection;
 use model_site::{EditFault, RedoFault, SendFault, Taken, UndoFault};
@@ -99,9 +100,9 @@ impl Member {
 
     /// As `Site::settle`.
     pub fn settle(&mut self, editor: Editor, entry: Entry) -> Result<(), Memory>
-        requires settles { Settles self.old.site.replica editor entry }
+        requires settles { Settles self.old.site.replica (replica_of editor) entry }
         ensures site { OnOk result (
-            self.new ≡ at_site (with_new_entry editor entry self.old.site) self.old) }
+            self.new ≡ at_site (with_new_entry (replica_of editor) entry self.old.site) self.old) }
         ensures kept { OnErr result (self.new ≡ self.old) }
     {
         self.site.settle(editor, entry)
