@@ -27,7 +27,7 @@ shape_alike values others (item.Char ch marks) = refl
 shape_alike values others (item.Opening kind generated head marks pre origin) = refl
 shape_alike values others (item.Closing kind pre) = refl
 
-list_alike : (values others : List Value) (items : List Item) → map shape_of (plain_list values items) ≡ map shape_of (plain_list others items)
+pub list_alike : (values others : List Value) (items : List Item) → map shape_of (plain_list values items) ≡ map shape_of (plain_list others items)
 list_alike values others [] = refl
 list_alike values others (x ∷ items) = λ i. shape_alike values others x i ∷ list_alike values others items i
 

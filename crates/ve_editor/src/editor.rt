@@ -11,7 +11,7 @@ ghost use Rattle.model_change.specs.Transaction.{edited};
 ghost use Rattle.model_site.specs.Replica.{all_filled, all_performed, all_put_back, performed, put_back};
 ghost use Rattle.ve_tx.specs.Cites.{TxCites};
 ghost use Rattle.ve_tx.specs.Operation.{by_value};
-ghost use Rattle.ve_tree.specs.IsTree.{unvalued};
+ghost use Rattle.ve_tree.specs.IsTree.{IsTree, unvalued};
 ghost use Rattle.model_items.specs.Cost.{cost_of_tree};
 
 use crate::perform::{ready, ready_back, ready_other};
@@ -217,6 +217,8 @@ impl Editor {
         ensures numbers { OnOk result (
             NumbersStay (by_value self.old.store tx.now) self.old.items self.old.nodes
             self.new.nodes) }
+        ensures tree { OnOk result (
+            IsTree self.new.nodes.slots self.new.nodes.root self.new.items) }
         ensures kept { OnErr result (IsUnchanged self.old self.new) }
         ensures counted { steps.old ≤ steps.new }
         ensures steps { steps.new
@@ -312,6 +314,8 @@ impl Editor {
         ensures numbers { OnOk result (
             NumbersStay (by_value values.now tx.now) self.old.items self.old.nodes
             self.new.nodes) }
+        ensures tree { OnOk result (
+            IsTree self.new.nodes.slots self.new.nodes.root self.new.items) }
         ensures txs { IfOk result (λ txs.
             map (by_value self.new.store) txs
             ≡ filled (by_value values.now tx.now) self.old.items ∷ []) }

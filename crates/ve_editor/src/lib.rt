@@ -8,23 +8,24 @@
 //! `Err` of theirs nothing is said of the editor. Each counts at most eight steps for each node
 //! that a transaction touches, and sixteen more.
 //!
-//! The view of an `Editor` is the model's `Replica` (model_site), by value. `perform` is the
-//! model's `performed`, with the entry `entry_of` and the refusal of `edit_cause`. `admit` is
-//! `all_performed` of another's parcel, with its `entry_of`; `revert` is `reverted`. The type keeps
-//! that the list is lawful, and that the tree is the list's. Each value that is cited is in the
-//! store and of the right sort (`IsPage`).
+//! The view of an `Editor` is the model's `Replica` (model_site), by value, and the tree's nodes by
+//! their numbers (`LinkedPage`). `perform` is the model's `performed`, with the entry `entry_of` and
+//! the refusal of `edit_cause`. `admit` is `all_performed` of another's parcel, with its `entry_of`;
+//! `revert` is `reverted`. The type keeps that the list is lawful, and that the tree is the list's.
+//! Each value that is cited is in the store and of the right sort (`IsPage`).
 //!
 //! The tree becomes that of the new list as the last step that may fail, before the list itself
 //! changes (`ve_repair::relink`); after it the list takes no memory. At want of memory the list,
 //! the values and the selection are as before, and the tree is the list's still. The steps are
-//! bounded by how many nodes a transaction touches. Nodes that stay keep their numbers, which
-//! `ready` and `ready_back` say, as the view of an `Editor` has no tree.
+//! bounded by how many nodes a transaction touches. Nodes that stay keep their numbers, as a clause
+//! `numbers` of `perform`, `admit` and `revert` says, and of the two in place (`NumbersStay`). After
+//! a refusal each number has the node that it had (`IsUnchanged`).
 //!
-//! Definitions, in reading order: `Page` (the invariant of the type), `Edited` (drafts and entries
-//! by value; what may be performed or taken back), `Counted` (how many steps a call counts at
-//! most), `Refusal` (how a refusal names its cause). `Prepared` serves private functions: a change
-//! whose tree is there and whose list needs no more memory. There is no law of its own: those of
-//! model_site_law hold by the clauses.
+//! Definitions, in reading order: `Page` (the invariant of the type and its view), `Stays` (which
+//! nodes keep their numbers), `Edited` (drafts and entries by value; what may be performed or taken
+//! back), `Counted` (how many steps a call counts at most), `Refusal` (how a refusal names its
+//! cause). `Prepared` serves private functions: a change whose tree is there and whose list needs no
+//! more memory. There is no law of its own: those of model_site_law hold by the clauses.
 //!
 //! A draft's values go into the store before it is known that the draft applies, since its removed
 //! items are compared over the store. A refusal cuts them off again.

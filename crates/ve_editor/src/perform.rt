@@ -19,9 +19,10 @@ ghost use Rattle.ve_repair.specs.Kept.{KeepsNumbers};
 ghost use Rattle.ve_repair.specs.Repaired.{IsTreeOfAfter, IsWithinTouch, SameNodes};
 ghost use Rattle.model_change.specs.Cost.{cost_of_transaction};
 ghost use Rattle.ve_editor.specs.Edited.{IsDraftOf, drafted};
-ghost use Rattle.ve_editor.specs.Page.{IsPage, page_of};
+ghost use Rattle.ve_editor.specs.Page.{IsPage, nodes_of_tree, page_of};
 ghost use Rattle.ve_editor.specs.Prepared.{IsReadyBack, IsReadyOther, MayPerform};
 ghost use Rattle.ve_editor.specs.Refusal.{IsEditRefusal};
+ghost use Rattle.ve_editor.specs.Stays.{NumbersStay};
 
 use crate::faults::of_transaction;
 use crate::prepare::prepare;
@@ -231,7 +232,8 @@ pub fn ready_back<L: Ledger>(
 
 /// Makes a transaction ready that cites a list of values, applies to a page and leaves it lawful.
 /// The store takes its values and the list room. Then the tree becomes that of the list after the
-/// change. An `Err` leaves it the list's, and may leave values after those that were there.
+/// change, in which nodes that stay keep their numbers. An `Err` leaves it the list's, and may
+/// leave values after those that were there.
 pub fn ready_other<L: Ledger>(
     alloc: Global,
     list: &mut Linear,
@@ -249,6 +251,9 @@ pub fn ready_other<L: Ledger>(
         edited (by_value values.now tx.now) (plain_list store.old list.old.items)) }
     ensures ok { IfOk result (
         IsReadyOther (by_value values.now tx.now) store.old store.new list.new tree.new) }
+    ensures numbers { OnOk result (
+        NumbersStay (by_value values.now tx.now) (plain_list store.old list.old.items)
+        (nodes_of_tree tree.old) (nodes_of_tree tree.new)) }
     ensures root { tree.new.root ≡ tree.old.root }
     ensures kept { OnErr result (IsTreeOf tree.new (unvalued list.old.items)) }
     ensures same { OnErr result (SameNodes tree.old.arena tree.new.arena) }

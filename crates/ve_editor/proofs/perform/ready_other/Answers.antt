@@ -1,12 +1,15 @@
 use Rattle.std.proofs.Common.{◌≡◌, ◌≤◌, ◌+◌, ◌*◌, true, sym, subst, ◌∙◌}
 use Rattle.model_items.specs.Law.{Lawful}
+use Rattle.model_items.specs.Plain.{plain_list}
 use Rattle.model_change.specs.Fault.{fault}
 use Rattle.model_change.specs.Touch.{touch}
 use Rattle.model_change.specs.Transaction.{edited, is_reduced}
 use Rattle.ve_tx.specs.Operation.{by_value}
 use Rattle.ve_tx.proofs.ChangeLemmas.{normal-reduced}
-use Rattle.ve_tx.proofs.ValuesLemmas.{extends_on}
+use Rattle.ve_tx.proofs.ValuesLemmas.{extends_on, list-extended}
+use Rattle.ve_editor.specs.Page.{nodes_of_tree}
 use Rattle.ve_editor.proofs.OtherLemmas as other
+use Rattle.ve_editor.proofs.StayLemmas.{numbers_as, numbers_stay}
 use Rattle.ve_editor.proofs.perform.ready_other.Goals as goal
 
 pub one_filled-requires-clause-list : goal.one_filled-requires-clause-list
@@ -69,3 +72,15 @@ pub returns-clause-steps : goal.returns-clause-steps
 returns-clause-steps g c =
     let over = other.over_own c.args.values.now c.args.store.now c.recite.new.store c.args.tx.now c.in_ok-own.own c.args.list.now.items c.requires.list c.in_ok-own.ensures.filled c.in_ok-own.ensures.same in
     subst (λ n. c.ready_back.new.steps ≤ c.args.steps.now + 8 * (n + 2)) (over touch) c.ready_back.ensures.steps
+
+pub returns-clause-numbers : goal.returns-clause-numbers
+returns-clause-numbers g c =
+    let values = c.args.values.now in
+    let store = c.args.store.now in
+    let taken = c.recite.new.store in
+    let own = c.in_ok-own.own in
+    let items = c.args.list.now.items in
+    let extends = other.own_extends values store taken c.args.tx.now own items c.requires.list c.in_ok-own.ensures.filled c.in_ok-own.ensures.same in
+    numbers_as (by_value taken own) (by_value values c.args.tx.now) (plain_list taken items) (plain_list store items) (nodes_of_tree c.args.tree.now) (nodes_of_tree c.ready_back.new.tree)
+    c.in_ok-own.ensures.same (list-extended store taken extends items c.requires.list)
+    (numbers_stay taken own items c.args.tree.now c.ready_back.new.tree c.ready_back.ensures.root c.in_ok-change.ensures.numbers)

@@ -1,9 +1,10 @@
 use Rattle.std.proofs.Common.{◌≡◌, ◌≤◌, ◌+◌, length, List, All, IfOk, OnOk, map, refl, sym, ap, ◌∙◌, subst, arith}
 use Rattle.std.proofs.lemmas.Bool.{eqb-false}
-use Rattle.model_site.specs.Replica.{Replica, all_filled, all_performed}
+use Rattle.model_site.specs.Replica.{all_filled, all_performed}
 use Rattle.ve_tx.specs.Cites.{TxCites}
 use Rattle.ve_tx.specs.Operation.{Operation, by_value}
 use Rattle.ve_editor.specs.Edited.{AllStand}
+use Rattle.ve_editor.specs.Page.{LinkedPage, replica_of}
 use Rattle.ve_editor.proofs.BackLemmas.{one_only}
 use Rattle.model_change.specs.Cost.{cost_of_transactions}
 use Rattle.ve_editor.proofs.CountedLemmas.{one_within, copied_within, copy_within, mapped_several}
@@ -30,8 +31,8 @@ perform_other-requires-clause-lawful g c =
 pub returns-then-txs-eq1-clause-page : goal.returns-then-txs-eq1-clause-page
 returns-then-txs-eq1-clause-page g c =
     let is = one_only c.args.txs.now c.index-txs-0.result c.if-txs-eq1.true c.index-txs-0.is in
-    let e = ap (λ l. all_performed (map (by_value c.args.values.now) l) c.args.self.now) (sym is) in
-    subst (λ q. OnOk c.perform_other.result (c.perform_other.new.self ≡ q)) e c.perform_other.ensures.page
+    let e = ap (λ l. all_performed (map (by_value c.args.values.now) l) (replica_of c.args.self.now)) (sym is) in
+    subst (λ q. OnOk c.perform_other.result (replica_of c.perform_other.new.self ≡ q)) e c.perform_other.ensures.page
 
 pub returns-then-txs-eq1-clause-txs : goal.returns-then-txs-eq1-clause-txs
 returns-then-txs-eq1-clause-txs g c =
@@ -41,20 +42,20 @@ returns-then-txs-eq1-clause-txs g c =
 
 pub perform_others-requires-clause-stands : goal.perform_others-requires-clause-stands
 perform_others-requires-clause-stands g c =
-    subst (λ (r : Replica). AllStand (map (by_value c.args.values.now) c.args.txs.now) r.items) (sym c.in_ok-grown.ensures.ok) c.requires.stands
+    subst (λ (r : LinkedPage). AllStand (map (by_value c.args.values.now) c.args.txs.now) r.items) (sym c.in_ok-grown.ensures.ok) c.requires.stands
 
 pub returns-clause-page : goal.returns-clause-page
 returns-clause-page g c =
-    c.grown.view_is ∙ (c.in_ok-kept.ensures.page ∙ ap (all_performed (map (by_value c.args.values.now) c.args.txs.now)) c.in_ok-grown.ensures.ok)
+    ap replica_of c.grown.view_is ∙ (c.in_ok-kept.ensures.page ∙ ap (λ (p : LinkedPage). all_performed (map (by_value c.args.values.now) c.args.txs.now) (replica_of p)) c.in_ok-grown.ensures.ok)
 
 pub returns-clause-txs : goal.returns-clause-txs
 returns-clause-txs g c =
-    ap (λ (r : Replica). map (by_value r.store) c.in_ok-kept.kept) c.grown.view_is
+    ap (λ (r : LinkedPage). map (by_value r.store) c.in_ok-kept.kept) c.grown.view_is
     ∙ (c.in_ok-kept.ensures.txs
-    ∙ ap (λ (r : Replica). all_filled (map (by_value c.args.values.now) c.args.txs.now) r.items) c.in_ok-grown.ensures.ok)
+    ∙ ap (λ (r : LinkedPage). all_filled (map (by_value c.args.values.now) c.args.txs.now) r.items) c.in_ok-grown.ensures.ok)
 
 pub returns-clause-cites : goal.returns-clause-cites
-returns-clause-cites g c = subst (λ (r : Replica). All (TxCites r.store) c.in_ok-kept.kept) (sym c.grown.view_is) c.in_ok-kept.ensures.cites
+returns-clause-cites g c = subst (λ (r : LinkedPage). All (TxCites r.store) c.in_ok-kept.kept) (sym c.grown.view_is) c.in_ok-kept.ensures.cites
 
 pub returns-then-txs-eq1-clause-steps : goal.returns-then-txs-eq1-clause-steps
 returns-then-txs-eq1-clause-steps g c =
@@ -67,13 +68,13 @@ pub returns-in_err-kept-clause-steps : goal.returns-in_err-kept-clause-steps
 returns-in_err-kept-clause-steps g c =
     let ts = map (by_value c.args.values.now) c.args.txs.now in
     copied_within ts c.args.self.now.items c.args.steps.now c.copy.new.steps c.perform_others.new.steps (mapped_several (by_value c.args.values.now) c.args.txs.now (eqb-false (length c.args.txs.now) 0 (sym c.is_empty.ensures ∙ c.if-is_empty.false)) c.if-txs-eq1.false) c.copy.ensures.steps
-    (subst (λ (q : Replica). c.perform_others.new.steps ≤ c.copy.new.steps + cost_of_transactions ts q.items) c.in_ok-grown.ensures.ok c.perform_others.ensures.steps)
+    (subst (λ (q : LinkedPage). c.perform_others.new.steps ≤ c.copy.new.steps + cost_of_transactions ts q.items) c.in_ok-grown.ensures.ok c.perform_others.ensures.steps)
 
 pub returns-clause-steps : goal.returns-clause-steps
 returns-clause-steps g c =
     let ts = map (by_value c.args.values.now) c.args.txs.now in
     copied_within ts c.args.self.now.items c.args.steps.now c.copy.new.steps c.perform_others.new.steps (mapped_several (by_value c.args.values.now) c.args.txs.now (eqb-false (length c.args.txs.now) 0 (sym c.is_empty.ensures ∙ c.if-is_empty.false)) c.if-txs-eq1.false) c.copy.ensures.steps
-    (subst (λ (q : Replica). c.perform_others.new.steps ≤ c.copy.new.steps + cost_of_transactions ts q.items) c.in_ok-grown.ensures.ok c.perform_others.ensures.steps)
+    (subst (λ (q : LinkedPage). c.perform_others.new.steps ≤ c.copy.new.steps + cost_of_transactions ts q.items) c.in_ok-grown.ensures.ok c.perform_others.ensures.steps)
 
 pub returns-in_err-grown-clause-steps : goal.returns-in_err-grown-clause-steps
 returns-in_err-grown-clause-steps g c =

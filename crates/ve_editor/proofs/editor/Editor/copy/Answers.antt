@@ -1,7 +1,8 @@
-use Rattle.std.proofs.Common.{All, ap, ◌∙◌, subst, sym}
+use Rattle.std.proofs.Common.{◌≡◌, All, ap, ◌∙◌, subst, sym}
 use Rattle.model_items.specs.Plain.{CitesWell, plain_list}
 use Rattle.ve_tree.specs.IsTree.{unvalued}
 use Rattle.ve_tree.specs.TreeOf.{IsTreeOf}
+use Rattle.ve_editor.specs.Page.{nodes_of_tree}
 use Rattle.ve_editor.proofs.editor.Editor.copy.Goals as goal
 
 pub copy-requires-3 : goal.copy-requires-3
@@ -18,4 +19,5 @@ invariant_of-result g c =
 pub returns-clause-ok : goal.returns-clause-ok
 returns-clause-ok g c =
     let items = ap (λ l. plain_list c.in_ok-store.store l) c.in_ok-list.ensures.items ∙ ap (λ s. plain_list s c.self.inside.list.items) c.in_ok-store.ensures in
-    (λ i. record { items = items i; store = c.in_ok-store.ensures i; selection = c.self.inside.selection }) ∙ c.self.view_is
+    let nodes : nodes_of_tree c.in_ok-tree.tree ≡ nodes_of_tree c.self.inside.tree = λ i. record { slots = c.in_ok-tree.ensures.arena i; root = c.in_ok-tree.ensures.root i } in
+    (λ i. record { items = items i; store = c.in_ok-store.ensures i; selection = c.self.inside.selection; nodes = nodes i }) ∙ c.self.view_is

@@ -1,4 +1,5 @@
-use Rattle.std.proofs.Common.{◌≡◌, ◌≤◌, ◌<◌, ◌+◌, ◌-◌, length, take, drop, sym, ap, ◌∙◌, subst, arith}
+use Rattle.std.proofs.Common.{◌≡◌, ◌≤◌, ◌<◌, ◌+◌, ◌-◌, [], length, take, drop, sym, ap, ◌∙◌, subst, append-nil, arith}
+use Rattle.std.proofs.lemmas.List.{drop_all, take_all}
 use Rattle.model_items.specs.Law.{Lawful}
 use Rattle.model_change.specs.Fault.{Applies}
 use Rattle.model_change.specs.Inverse.{inverse}
@@ -9,6 +10,9 @@ use Rattle.ve_tx.specs.Operation.{by_value}
 use Rattle.ve_tx.proofs.ValuesLemmas.{extends_on}
 use Rattle.model_change.specs.Cost.{cost_of_transactions}
 use Rattle.ve_editor.specs.Edited.{AllStand, reversal_over}
+use Rattle.ve_editor.specs.Page.{replica_of}
+use Rattle.ve_editor.specs.Stays.{NumbersStay, NumbersStayOver}
+use Rattle.ve_editor.proofs.StayLemmas.{StaySoFar, stay_first, stay_more, one_more_back}
 use Rattle.ve_editor.proofs.BackLemmas.{left_over, made_more, extends_back}
 use Rattle.ve_editor.proofs.CountedLemmas.{within_all, left_within_all}
 use Rattle.ve_editor.proofs.GrownLemmas.{by_value-extended, cites-extended}
@@ -78,13 +82,18 @@ loop-n-preserved g c =
     let all = c.args.steps.now + cost_of_transactions (reversal_over store txs) c.args.self.now.items in
     let bound = subst (λ l. c.loop-n.steps + cost_of_transactions l old.items ≤ all) (left_over store txs k tx below c.index-txs-txs.is)
     (subst (λ j. c.loop-n.steps + cost_of_transactions (reversal_over store (take j txs)) old.items ≤ all) next c.loop-n.invariant.spent) in
-    let one : new ≡ put_back (inverse (by_value store tx)) old = c.in_ok-put_back.ensures.page ∙ ap (λ t. put_back t old) back in
+    let one : replica_of new ≡ put_back (inverse (by_value store tx)) (replica_of old) = c.in_ok-put_back.ensures.page ∙ ap (λ t. put_back t (replica_of old)) back in
     record {
       made = one ∙ ap (put_back (inverse (by_value store tx))) c.loop-n.invariant.made
-          ∙ ap (λ j. put_back (inverse (by_value store tx)) (all_put_back (reversal_over store (drop j txs)) c.args.self.now)) next
-          ∙ sym (made_more store txs k tx c.args.self.now below c.index-txs-txs.is)
-          ∙ ap (λ j. all_put_back (reversal_over store (drop j txs)) c.args.self.now) last;
-      extends = extends_on store old.store new.store extends (extends_back (inverse (by_value store tx)) old new one);
+          ∙ ap (λ j. put_back (inverse (by_value store tx)) (all_put_back (reversal_over store (drop j txs)) (replica_of c.args.self.now))) next
+          ∙ sym (made_more store txs k tx (replica_of c.args.self.now) below c.index-txs-txs.is)
+          ∙ ap (λ j. all_put_back (reversal_over store (drop j txs)) (replica_of c.args.self.now)) last;
+      stays = subst (λ j. StaySoFar (reversal_over store (drop j txs)) c.args.self.now new) last
+          (subst (λ l. StaySoFar l c.args.self.now new) (sym (one_more_back store txs k tx below c.index-txs-txs.is))
+          (stay_more (reversal_over store (drop (k + 1) txs)) (inverse (by_value store tx)) c.args.self.now old new
+          (subst (λ j. StaySoFar (reversal_over store (drop j txs)) c.args.self.now old) next c.loop-n.invariant.stays) (ap (λ (r : Replica). r.items) one) c.in_ok-put_back.ensures.tree
+          (subst (λ t. NumbersStay t old.items old.nodes new.nodes) back c.in_ok-put_back.ensures.numbers)));
+      extends = extends_on store old.store new.store extends (extends_back (inverse (by_value store tx)) (replica_of old) (replica_of new) one);
       counted = omega (arith, c.loop-n.invariant.counted, c.put_back.ensures.counted);
       spent = subst (λ j. c.put_back.new.steps + cost_of_transactions (reversal_over store (take j txs)) new.items ≤ all) last
           (left_within_all (inverse (by_value store tx)) (by_value old.store c.in_ok-back.back) (reversal_over store (take k txs)) old.items c.loop-n.steps c.put_back.new.steps all back bound
@@ -110,3 +119,25 @@ returns-in_err-put_back-clause-steps g c =
     (subst (λ j. c.loop-n.steps + cost_of_transactions (reversal_over store (take j txs)) old.items ≤ all) next c.loop-n.invariant.spent) in
     within_all (inverse (by_value store tx)) (by_value old.store c.in_ok-back.back) (reversal_over store (take k txs)) old.items c.loop-n.steps c.put_back.new.steps all back bound
     c.put_back.ensures.steps
+
+pub loop-n-init : goal.loop-n-init
+loop-n-init g c =
+    let txs = c.args.txs.now in
+    let r = c.args.self.now in
+    let none : drop (length txs - 0) txs ≡ [] = drop_all (length txs - 0) txs (omega arith) in
+    let all : take (length txs - 0) txs ≡ txs = take_all (length txs - 0) txs (omega arith) in
+    record {
+      made = ap (λ l. all_put_back (reversal_over r.store l) (replica_of r)) (sym none);
+      stays = subst (λ l. StaySoFar (reversal_over r.store l) r r) (sym none) (stay_first r);
+      extends = ([], sym (append-nil r.store));
+      counted = omega arith;
+      spent = subst (λ l. c.args.steps.now + cost_of_transactions (reversal_over r.store l) r.items ≤ c.args.steps.now + cost_of_transactions (reversal_over r.store txs) r.items) (sym all) (omega arith);
+      left = subst (λ l. AllStand (reversal_over r.store l) r.items) (sym all) c.requires.stands;
+    }
+
+pub returns-clause-numbers : goal.returns-clause-numbers
+returns-clause-numbers g c =
+    let txs = c.args.txs.now in
+    let r = c.args.self.now in
+    let done : length txs - c.loop-n.n ≡ 0 = omega (arith, c.loop-n-test.false) in
+    subst (λ j. NumbersStayOver (reversal_over r.store (drop j txs)) r.items r.nodes c.loop-n.self.nodes) done c.loop-n.invariant.stays.numbers

@@ -3,10 +3,11 @@ use Rattle.std.proofs.lemmas.Bool.{eqb-false}
 use Rattle.model_items.specs.Law.{Lawful}
 use Rattle.model_change.specs.Fault.{Applies}
 use Rattle.model_change.specs.Transaction.{edited}
-use Rattle.model_site.specs.Replica.{Replica, put_back, all_put_back}
+use Rattle.model_site.specs.Replica.{put_back, all_put_back}
 use Rattle.ve_tx.specs.Cites.{TxCites}
 use Rattle.ve_tx.specs.Operation.{Operation, by_value}
 use Rattle.ve_editor.specs.Edited.{AllStand, reversal_over}
+use Rattle.ve_editor.specs.Page.{LinkedPage, replica_of}
 use Rattle.ve_editor.proofs.BackLemmas.{one_only}
 use Rattle.model_change.specs.Inverse.{inverse}
 use Rattle.model_change.specs.Cost.{cost_of_transactions}
@@ -38,14 +39,14 @@ pub returns-then-txs-eq1-clause-page : goal.returns-then-txs-eq1-clause-page
 returns-then-txs-eq1-clause-page g c =
     let r = c.args.self.now in
     let is = one_only c.args.txs.now c.index-txs-0.result c.if-txs-eq1.true c.index-txs-0.is in
-    let e = ap (λ t. put_back t r) (c.in_ok-back.ensures.inverse r.store) ∙ ap (λ l. all_put_back (reversal_over r.store l) r) (sym is) in
-    subst (λ q. OnOk c.put_back.result (c.put_back.new.self ≡ q)) e c.put_back.ensures.page
+    let e = ap (λ t. put_back t (replica_of r)) (c.in_ok-back.ensures.inverse r.store) ∙ ap (λ l. all_put_back (reversal_over r.store l) (replica_of r)) (sym is) in
+    subst (λ q. OnOk c.put_back.result (replica_of c.put_back.new.self ≡ q)) e c.put_back.ensures.page
 
 pub put_all_back-requires-clause-stands : goal.put_all_back-requires-clause-stands
-put_all_back-requires-clause-stands g c = subst (λ (r : Replica). AllStand (reversal_over r.store c.args.txs.now) r.items) (sym c.in_ok-copy.ensures.ok) c.requires.stands
+put_all_back-requires-clause-stands g c = subst (λ (r : LinkedPage). AllStand (reversal_over r.store c.args.txs.now) r.items) (sym c.in_ok-copy.ensures.ok) c.requires.stands
 
 pub returns-clause-page : goal.returns-clause-page
-returns-clause-page g c = c.copy-2.view_is ∙ c.in_ok-put_all_back.ensures.page ∙ ap (λ (r : Replica). all_put_back (reversal_over r.store c.args.txs.now) r) c.in_ok-copy.ensures.ok
+returns-clause-page g c = ap replica_of c.copy-2.view_is ∙ c.in_ok-put_all_back.ensures.page ∙ ap (λ (r : LinkedPage). all_put_back (reversal_over r.store c.args.txs.now) (replica_of r)) c.in_ok-copy.ensures.ok
 
 pub returns-then-txs-eq1-clause-steps : goal.returns-then-txs-eq1-clause-steps
 returns-then-txs-eq1-clause-steps g c =
@@ -58,13 +59,13 @@ pub returns-in_err-put_all_back-clause-steps : goal.returns-in_err-put_all_back-
 returns-in_err-put_all_back-clause-steps g c =
     let r = c.args.self.now in
     copied_within (reversal_over r.store c.args.txs.now) r.items c.args.steps.now c.copy.new.steps c.put_all_back.new.steps (reversal_several (by_value r.store) c.args.txs.now (eqb-false (length c.args.txs.now) 0 (sym c.is_empty.ensures ∙ c.if-is_empty.false)) c.if-txs-eq1.false) c.copy.ensures.steps
-    (subst (λ (q : Replica). c.put_all_back.new.steps ≤ c.copy.new.steps + cost_of_transactions (reversal_over q.store c.args.txs.now) q.items) c.in_ok-copy.ensures.ok c.put_all_back.ensures.steps)
+    (subst (λ (q : LinkedPage). c.put_all_back.new.steps ≤ c.copy.new.steps + cost_of_transactions (reversal_over q.store c.args.txs.now) q.items) c.in_ok-copy.ensures.ok c.put_all_back.ensures.steps)
 
 pub returns-clause-steps : goal.returns-clause-steps
 returns-clause-steps g c =
     let r = c.args.self.now in
     copied_within (reversal_over r.store c.args.txs.now) r.items c.args.steps.now c.copy.new.steps c.put_all_back.new.steps (reversal_several (by_value r.store) c.args.txs.now (eqb-false (length c.args.txs.now) 0 (sym c.is_empty.ensures ∙ c.if-is_empty.false)) c.if-txs-eq1.false) c.copy.ensures.steps
-    (subst (λ (q : Replica). c.put_all_back.new.steps ≤ c.copy.new.steps + cost_of_transactions (reversal_over q.store c.args.txs.now) q.items) c.in_ok-copy.ensures.ok c.put_all_back.ensures.steps)
+    (subst (λ (q : LinkedPage). c.put_all_back.new.steps ≤ c.copy.new.steps + cost_of_transactions (reversal_over q.store c.args.txs.now) q.items) c.in_ok-copy.ensures.ok c.put_all_back.ensures.steps)
 
 pub returns-in_err-copy-clause-steps : goal.returns-in_err-copy-clause-steps
 returns-in_err-copy-clause-steps g c =

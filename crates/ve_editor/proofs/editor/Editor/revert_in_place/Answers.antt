@@ -1,7 +1,10 @@
-use Rattle.std.proofs.Common.{◌≡◌, ◌≤◌, ◌+◌, length, sym, ap, ◌∙◌, subst}
+use Rattle.std.proofs.Common.{◌≡◌, ◌≤◌, ℕ, ◌+◌, length, sym, ap, ◌∙◌, subst}
 use Rattle.model_items.specs.Plain.{AreDistinct}
+use Rattle.model_site.specs.Entries.{cut_back}
 use Rattle.model_site.specs.Replica.{Replica, all_put_back}
 use Rattle.ve_editor.specs.Edited.{IsUncited, entry_by_value, reversal_over}
+use Rattle.ve_editor.specs.Page.{LinkedPage, replica_of}
+use Rattle.ve_editor.specs.Stays.{NumbersStayOver}
 use Rattle.ve_editor.proofs.BackLemmas.{distinct_back}
 use Rattle.model_change.specs.Cost.{cost_of_transactions}
 use Rattle.ve_editor.proofs.editor.Editor.revert_in_place.Goals as goal
@@ -9,17 +12,17 @@ use Rattle.ve_editor.proofs.editor.Editor.revert_in_place.Goals as goal
 pub cut_back-requires-clause-distinct : goal.cut_back-requires-clause-distinct
 cut_back-requires-clause-distinct g c =
     let r = c.args.self.now in
-    let distinct = subst (λ (q : Replica). AreDistinct q.store) c.self.view_is c.len-was.ensures.distinct in
-    subst (λ (q : Replica). AreDistinct q.store) (sym c.in_ok-put_all_back.ensures.page) (distinct_back (reversal_over r.store c.as_slice.result.now) r distinct)
+    let distinct = subst (λ (q : LinkedPage). AreDistinct q.store) c.self.view_is c.len-was.ensures.distinct in
+    subst (λ (q : Replica). AreDistinct q.store) (sym c.in_ok-put_all_back.ensures.page) (distinct_back (reversal_over r.store c.as_slice.result.now) (replica_of r) distinct)
 
 pub cut_back-requires-clause-uncited : goal.cut_back-requires-clause-uncited
 cut_back-requires-clause-uncited g c =
     let r = c.args.self.now in
     let entry = c.args.entry.now in
-    let was : c.len-was.result ≡ length r.store = c.len-was.ensures.count ∙ ap (λ (q : Replica). length q.store) c.self.view_is in
-    let page = c.in_ok-put_all_back.ensures.page ∙ ap (λ l. all_put_back (reversal_over r.store l) r) c.as_slice.ensures in
+    let was : c.len-was.result ≡ length r.store = c.len-was.ensures.count ∙ ap (λ (q : LinkedPage). length q.store) c.self.view_is in
+    let page = c.in_ok-put_all_back.ensures.page ∙ ap (λ l. all_put_back (reversal_over r.store l) (replica_of r)) c.as_slice.ensures in
     subst (λ (q : Replica). IsUncited (entry_by_value r.store entry) c.len-was.result q) (sym page)
-    (subst (λ n. IsUncited (entry_by_value r.store entry) n (all_put_back (reversal_over r.store entry.txs) r)) (sym was) c.requires.uncited)
+    (subst (λ n. IsUncited (entry_by_value r.store entry) n (all_put_back (reversal_over r.store entry.txs) (replica_of r))) (sym was) c.requires.uncited)
 
 pub returns-in_err-put_all_back-clause-steps : goal.returns-in_err-put_all_back-clause-steps
 returns-in_err-put_all_back-clause-steps g c =
@@ -30,3 +33,19 @@ pub returns-clause-steps : goal.returns-clause-steps
 returns-clause-steps g c =
     let r = c.args.self.now in
     subst (λ l. c.put_all_back.new.steps ≤ c.args.steps.now + cost_of_transactions (reversal_over r.store l) r.items) c.as_slice.ensures c.put_all_back.ensures.steps
+
+pub returns-clause-page : goal.returns-clause-page
+returns-clause-page g c =
+    let r = c.args.self.now in
+    let entry = c.args.entry.now in
+    let was : c.len-was.result ≡ length r.store = c.len-was.ensures.count ∙ ap (λ (q : LinkedPage). length q.store) c.self.view_is in
+    let page = c.in_ok-put_all_back.ensures.page ∙ ap (λ l. all_put_back (reversal_over r.store l) (replica_of r)) c.as_slice.ensures in
+    let ended : ℕ → Replica → Replica = λ n s. record { items = s.items; store = cut_back (entry_by_value r.store entry) n s.store; selection = s.selection } in
+    ap replica_of c.cut_back.ensures ∙ ap (ended c.len-was.result) page ∙ ap (λ n. ended n (all_put_back (reversal_over r.store entry.txs) (replica_of r))) was
+
+pub returns-clause-numbers : goal.returns-clause-numbers
+returns-clause-numbers g c =
+    let r = c.args.self.now in
+    let nodes = ap (λ (p : LinkedPage). p.nodes) c.cut_back.ensures in
+    subst (NumbersStayOver (reversal_over r.store c.args.entry.now.txs) r.items r.nodes) (sym nodes)
+    (subst (λ l. NumbersStayOver (reversal_over r.store l) r.items r.nodes c.put_all_back.new.self.nodes) c.as_slice.ensures c.in_ok-put_all_back.ensures.numbers)
