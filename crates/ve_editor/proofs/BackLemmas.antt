@@ -7,11 +7,13 @@ use Rattle.model_change.specs.Replay.{reversal}
 use Rattle.model_change.specs.Store.{changed_heads}
 use Rattle.model_change.specs.Transaction.{Transaction}
 use Rattle.model_change.proofs.StoreLemmas.{fill_appends}
+use Rattle.model_site.specs.Entries.{Entry, cut_back, reverted}
 use Rattle.model_site.specs.Replica.{Replica, put_back, all_put_back}
 use Rattle.ve_tx.specs.Making.{Extends}
 use Rattle.ve_tx.specs.Operation.{Operation, by_value}
 use Rattle.ve_tx.proofs.ValuesLemmas.{extends_by_fill}
 use Rattle.ve_editor.specs.Edited.{reversal_over}
+use Rattle.ve_editor.specs.Page.{LinkedPage, replica_of}
 
 put_back-append : (ts us : List Transaction) (r : Replica) → all_put_back (ts ++ us) r ≡ all_put_back us (all_put_back ts r)
 put_back-append [] us r = refl
@@ -63,3 +65,14 @@ pub one_only : {A : Type 0} (xs : List A) (x : A) → length xs ≡ 1 → x ≡ 
 one_only [] x n is = absurd (omega (arith, n))
 one_only (y ∷ []) x n is = ap (λ z. z ∷ []) (sym is)
 one_only (y ∷ (z ∷ xs)) x n is = absurd (let more : suc (suc (length xs)) ≡ 1 = n in omega (arith, more))
+
+-- after a reversal, an entry's values cut off
+abbrev cut_off : Entry → ℕ → Replica → Replica
+cut_off e was r = record { items = r.items; store = cut_back e was r.store; selection = r.selection }
+
+pub reverted_is : (e : Entry) (r : Replica) (made new : LinkedPage) (was : ℕ) → replica_of made ≡ all_put_back (reversal e.txs) r → new ≡ record made { store = cut_back e was made.store } →
+    was ≡ length r.store → replica_of new ≡ reverted e r
+reverted_is e r made new was page cut count = ap replica_of cut ∙ ap (cut_off e was) page ∙ ap (λ n. cut_off e n (all_put_back (reversal e.txs) r)) count
+
+pub nodes_stand : (made new : LinkedPage) (store : List Value) → new ≡ record made { store = store } → made.nodes ≡ new.nodes
+nodes_stand made new store cut = sym (ap (λ (p : LinkedPage). p.nodes) cut)

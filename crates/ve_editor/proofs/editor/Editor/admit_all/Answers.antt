@@ -5,7 +5,10 @@ use Rattle.ve_tx.specs.Cites.{TxCites}
 use Rattle.ve_tx.specs.Operation.{Operation, by_value}
 use Rattle.ve_editor.specs.Edited.{AllStand}
 use Rattle.ve_editor.specs.Page.{LinkedPage, replica_of}
+use Rattle.ve_editor.specs.Stays.{NumbersStayOver}
+use Rattle.ve_editor.proofs.StayLemmas.{stay_alone}
 use Rattle.ve_editor.proofs.BackLemmas.{one_only}
+use Rattle.model_change.specs.Store.{brought}
 use Rattle.model_change.specs.Cost.{cost_of_transactions}
 use Rattle.ve_editor.proofs.CountedLemmas.{one_within, copied_within, copy_within, mapped_several}
 use Rattle.ve_editor.proofs.editor.Editor.admit_all.Goals as goal
@@ -80,3 +83,18 @@ pub returns-in_err-grown-clause-steps : goal.returns-in_err-grown-clause-steps
 returns-in_err-grown-clause-steps g c =
     copy_within (map (by_value c.args.values.now) c.args.txs.now) c.args.self.now.items c.args.steps.now c.copy.new.steps
     (mapped_several (by_value c.args.values.now) c.args.txs.now (eqb-false (length c.args.txs.now) 0 (sym c.is_empty.ensures ∙ c.if-is_empty.false)) c.if-txs-eq1.false) c.copy.ensures.steps
+
+pub returns-then-txs-eq1-clause-numbers : goal.returns-then-txs-eq1-clause-numbers
+returns-then-txs-eq1-clause-numbers g c =
+    let r = c.args.self.now in
+    let t = by_value c.args.values.now c.index-txs-0.result in
+    let is = one_only c.args.txs.now c.index-txs-0.result c.if-txs-eq1.true c.index-txs-0.is in
+    subst (λ l. OnOk c.perform_other.result (NumbersStayOver (map (by_value c.args.values.now) l) r.items r.nodes c.perform_other.new.self.nodes)) (sym is)
+    (stay_alone c.perform_other.result t t (brought t r.items) r c.perform_other.new.self refl c.perform_other.ensures.page c.perform_other.ensures.tree c.perform_other.ensures.numbers)
+
+pub returns-clause-numbers : goal.returns-clause-numbers
+returns-clause-numbers g c =
+    let r = c.args.self.now in
+    let ts = map (by_value c.args.values.now) c.args.txs.now in
+    subst (λ (p : LinkedPage). NumbersStayOver ts r.items r.nodes p.nodes) (sym c.grown.view_is)
+    (subst (λ (q : LinkedPage). NumbersStayOver ts q.items q.nodes c.perform_others.new.self.nodes) c.in_ok-grown.ensures.ok c.in_ok-kept.ensures.numbers)

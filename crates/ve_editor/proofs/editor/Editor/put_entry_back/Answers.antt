@@ -8,8 +8,11 @@ use Rattle.ve_tx.specs.Cites.{TxCites}
 use Rattle.ve_tx.specs.Operation.{Operation, by_value}
 use Rattle.ve_editor.specs.Edited.{AllStand, reversal_over}
 use Rattle.ve_editor.specs.Page.{LinkedPage, replica_of}
+use Rattle.ve_editor.specs.Stays.{NumbersStayOver}
+use Rattle.ve_editor.proofs.StayLemmas.{stay_alone}
 use Rattle.ve_editor.proofs.BackLemmas.{one_only}
 use Rattle.model_change.specs.Inverse.{inverse}
+use Rattle.model_change.specs.Store.{changed_heads}
 use Rattle.model_change.specs.Cost.{cost_of_transactions}
 use Rattle.ve_editor.proofs.CountedLemmas.{one_within, copied_within, copy_within, reversal_several}
 use Rattle.ve_editor.proofs.editor.Editor.put_entry_back.Goals as goal
@@ -71,3 +74,19 @@ pub returns-in_err-copy-clause-steps : goal.returns-in_err-copy-clause-steps
 returns-in_err-copy-clause-steps g c =
     let r = c.args.self.now in
     copy_within (reversal_over r.store c.args.txs.now) r.items c.args.steps.now c.copy.new.steps (reversal_several (by_value r.store) c.args.txs.now (eqb-false (length c.args.txs.now) 0 (sym c.is_empty.ensures ∙ c.if-is_empty.false)) c.if-txs-eq1.false) c.copy.ensures.steps
+
+pub returns-then-txs-eq1-clause-numbers : goal.returns-then-txs-eq1-clause-numbers
+returns-then-txs-eq1-clause-numbers g c =
+    let r = c.args.self.now in
+    let t = by_value r.store c.in_ok-back.back in
+    let is = one_only c.args.txs.now c.index-txs-0.result c.if-txs-eq1.true c.index-txs-0.is in
+    subst (λ l. OnOk c.put_back.result (NumbersStayOver (reversal_over r.store l) r.items r.nodes c.put_back.new.self.nodes)) (sym is)
+    (stay_alone c.put_back.result t (inverse (by_value r.store c.index-txs-0.result)) (changed_heads t r.items) r c.put_back.new.self (c.in_ok-back.ensures.inverse r.store)
+    c.put_back.ensures.page c.put_back.ensures.tree c.put_back.ensures.numbers)
+
+pub returns-clause-numbers : goal.returns-clause-numbers
+returns-clause-numbers g c =
+    let r = c.args.self.now in
+    let txs = c.args.txs.now in
+    subst (λ (p : LinkedPage). NumbersStayOver (reversal_over r.store txs) r.items r.nodes p.nodes) (sym c.copy-2.view_is)
+    (subst (λ (q : LinkedPage). NumbersStayOver (reversal_over q.store txs) q.items q.nodes c.put_all_back.new.self.nodes) c.in_ok-copy.ensures.ok c.in_ok-put_all_back.ensures.numbers)

@@ -1,11 +1,11 @@
-use Rattle.std.proofs.Common.{◌≡◌, ◌≤◌, ℕ, ◌+◌, length, sym, ap, ◌∙◌, subst}
+use Rattle.std.proofs.Common.{◌≡◌, ◌≤◌, ◌+◌, length, sym, ap, ◌∙◌, subst}
 use Rattle.model_items.specs.Plain.{AreDistinct}
 use Rattle.model_site.specs.Entries.{cut_back}
 use Rattle.model_site.specs.Replica.{Replica, all_put_back}
 use Rattle.ve_editor.specs.Edited.{IsUncited, entry_by_value, reversal_over}
 use Rattle.ve_editor.specs.Page.{LinkedPage, replica_of}
 use Rattle.ve_editor.specs.Stays.{NumbersStayOver}
-use Rattle.ve_editor.proofs.BackLemmas.{distinct_back}
+use Rattle.ve_editor.proofs.BackLemmas.{distinct_back, nodes_stand, reverted_is}
 use Rattle.model_change.specs.Cost.{cost_of_transactions}
 use Rattle.ve_editor.proofs.editor.Editor.revert_in_place.Goals as goal
 
@@ -40,12 +40,12 @@ returns-clause-page g c =
     let entry = c.args.entry.now in
     let was : c.len-was.result ≡ length r.store = c.len-was.ensures.count ∙ ap (λ (q : LinkedPage). length q.store) c.self.view_is in
     let page = c.in_ok-put_all_back.ensures.page ∙ ap (λ l. all_put_back (reversal_over r.store l) (replica_of r)) c.as_slice.ensures in
-    let ended : ℕ → Replica → Replica = λ n s. record { items = s.items; store = cut_back (entry_by_value r.store entry) n s.store; selection = s.selection } in
-    ap replica_of c.cut_back.ensures ∙ ap (ended c.len-was.result) page ∙ ap (λ n. ended n (all_put_back (reversal_over r.store entry.txs) (replica_of r))) was
+    reverted_is (entry_by_value r.store entry) (replica_of r) c.put_all_back.new.self c.cut_back.new.self c.len-was.result page c.cut_back.ensures was
 
 pub returns-clause-numbers : goal.returns-clause-numbers
 returns-clause-numbers g c =
     let r = c.args.self.now in
-    let nodes = ap (λ (p : LinkedPage). p.nodes) c.cut_back.ensures in
-    subst (NumbersStayOver (reversal_over r.store c.args.entry.now.txs) r.items r.nodes) (sym nodes)
+    let entry = c.args.entry.now in
+    let nodes = nodes_stand c.put_all_back.new.self c.cut_back.new.self (cut_back (entry_by_value r.store entry) c.len-was.result c.put_all_back.new.self.store) c.cut_back.ensures in
+    subst (NumbersStayOver (reversal_over r.store c.args.entry.now.txs) r.items r.nodes) nodes
     (subst (λ l. NumbersStayOver (reversal_over r.store l) r.items r.nodes c.put_all_back.new.self.nodes) c.as_slice.ensures c.in_ok-put_all_back.ensures.numbers)
