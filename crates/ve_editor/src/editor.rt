@@ -254,8 +254,8 @@ impl Editor {
     /// taken back the store had so many.
     pub(crate) fn cut_back(&mut self, entry: &Entry, was: usize)
         requires distinct { AreDistinct self.old.store }
-        requires uncited {
-            IsUncited (entry_by_value self.old.store entry.now) was (replica_of self.old) }
+        requires uncited { IsUncited (entry_by_value self.old.store entry.now) was (
+            replica_of self.old) }
         ensures { self.new ≡ record self.old {
           store = cut_back (entry_by_value self.old.store entry.now) was self.old.store;
         } }
@@ -433,10 +433,10 @@ impl Editor {
     /// Where values are cut, the list that is left may cite none of them. An `Err` changes nothing.
     pub fn revert<L: Ledger>(&mut self, entry: &Entry, steps: &mut Steps<L>) -> Result<(), Memory>
         requires cites { EntryCites self.old.store entry.now }
-        requires stands {
-            CanBeReverted (entry_by_value self.old.store entry.now) (replica_of self.old) }
-        requires uncited {
-            CutsUncited (entry_by_value self.old.store entry.now) (replica_of self.old) }
+        requires stands { CanBeReverted (entry_by_value self.old.store entry.now) (
+            replica_of self.old) }
+        requires uncited { CutsUncited (entry_by_value self.old.store entry.now) (
+            replica_of self.old) }
         ensures page { OnOk result (
             replica_of self.new
             ≡ reverted (entry_by_value self.old.store entry.now) (replica_of self.old)) }

@@ -120,10 +120,10 @@ impl Editor {
         steps: &mut Steps<L>,
     ) -> Result<(), Memory>
         requires cites { EntryCites self.old.store entry.now }
-        requires stands {
-            CanBeReverted (entry_by_value self.old.store entry.now) (replica_of self.old) }
-        requires uncited {
-            CutsUncited (entry_by_value self.old.store entry.now) (replica_of self.old) }
+        requires stands { CanBeReverted (entry_by_value self.old.store entry.now) (
+            replica_of self.old) }
+        requires uncited { CutsUncited (entry_by_value self.old.store entry.now) (
+            replica_of self.old) }
         ensures page { OnOk result (
             replica_of self.new
             ≡ reverted (entry_by_value self.old.store entry.now) (replica_of self.old)) }
