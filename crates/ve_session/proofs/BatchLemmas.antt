@@ -9,6 +9,7 @@ use Rattle.model_site_law.specs.SelectionLaws.{StandsIn}
 use Rattle.model_world.specs.declared.edit_command.EditCommand.{EditCommand}
 use Rattle.model_world.specs.Answers.{after_text}
 use Rattle.model_world.specs.Edits.{batch_on}
+use Rattle.ve_editor.specs.Page.{replica_of}
 use Rattle.ve_changes.specs.Batches.{IsBatch, IsTyped}
 use Rattle.ve_changes.specs.declared.batch.Batch.{Batch}
 use Rattle.ve_changes.specs.declared.typed.Typed.{Typed}
@@ -38,8 +39,8 @@ typed_at lent r text t same is = subst (λ (x : Replica). IsTyped x text t) same
 
 pub batch_settled : (k : ℕ) (old new : Shared) (changes : List EditCommand) (b : Batch)
     (is : IsBatch (site_at old k).replica (batch_on (site_at old k).replica changes) b) →
-    new ≡ with_site_at k (with_new_entry b.editor b.entry (site_at old k)) old → new ≡ with_site_at k (with_entry is.ts (site_at old k)) old
-batch_settled k old new changes b is e = e ∙ ap (λ (s : Site). with_site_at k s old) (settled_is b.editor b.entry (site_at old k)
+    new ≡ with_site_at k (with_new_entry (replica_of b.editor) b.entry (site_at old k)) old → new ≡ with_site_at k (with_entry is.ts (site_at old k)) old
+batch_settled k old new changes b is e = e ∙ ap (λ (s : Site). with_site_at k s old) (settled_is (replica_of b.editor) b.entry (site_at old k)
     (record { ts = is.ts; may = is.may; page = is.editor; entry = is.entry; cites = is.cites }))
 
 -- the caret stands where the text is put
