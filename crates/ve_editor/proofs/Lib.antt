@@ -9,6 +9,6 @@ pub mod BackLemmas
 pub mod RemovedLemmas
 pub mod OtherLemmas
 pub mod AdmitLemmas
-mod StayLemmas
+pub mod StayLemmas
 mod CountedLemmas
 pub mod CountedExamples

@@ -68,14 +68,15 @@ abbrev pub made_of : List Transaction → List PlainItem → List PlainItem
 made_of [] items = items
 made_of (t ∷ ts) items = made_of ts (edited t items)
 
-stay_append : (ts : List Transaction) (t : Transaction) (items : List PlainItem) (old now new : Nodes) → NumbersStayOver ts items old now →
-    IsTree new.slots new.root (edited t (made_of ts items)) → NumbersStay t (made_of ts items) now new → NumbersStayOver (ts ++ t ∷ []) items old new
-stay_append [] t items old now new same tree stay = record { next = new; tree = tree; numbers = subst (λ n. NumbersStay t items n new) same stay; later = refl }
-stay_append (u ∷ ts) t items old now new first tree stay = record {
+-- some of them, and then the others
+pub stay_over : (ts us : List Transaction) (items : List PlainItem) (old now new : Nodes) → NumbersStayOver ts items old now → NumbersStayOver us (made_of ts items) now new →
+    NumbersStayOver (ts ++ us) items old new
+stay_over [] us items old now new same later = subst (λ n. NumbersStayOver us items n new) same later
+stay_over (t ∷ ts) us items old now new first later = record {
   next = first.next;
   tree = first.tree;
   numbers = first.numbers;
-  later = stay_append ts t (edited u items) first.next now new first.later tree stay;
+  later = stay_over ts us (edited t items) first.next now new first.later later;
 }
 
 made-append : (ts : List Transaction) (t : Transaction) (items : List PlainItem) → made_of (ts ++ t ∷ []) items ≡ edited t (made_of ts items)
@@ -94,8 +95,12 @@ pub stay_more : (ts : List Transaction) (t : Transaction) (old now new : LinkedP
     IsTree new.nodes.slots new.nodes.root new.items → NumbersStay t now.items now.nodes new.nodes → StaySoFar (ts ++ t ∷ []) old new
 stay_more ts t old now new so_far made tree stay = record {
   items = made ∙ ap (edited t) so_far.items ∙ sym (made-append ts t old.items);
-  numbers = stay_append ts t old.items old.nodes now.nodes new.nodes so_far.numbers
-      (subst (IsTree new.nodes.slots new.nodes.root) (made ∙ ap (edited t) so_far.items) tree) (subst (λ l. NumbersStay t l now.nodes new.nodes) so_far.items stay);
+  numbers = stay_over ts (t ∷ []) old.items old.nodes now.nodes new.nodes so_far.numbers (record {
+    next = new.nodes;
+    tree = subst (IsTree new.nodes.slots new.nodes.root) (made ∙ ap (edited t) so_far.items) tree;
+    numbers = subst (λ l. NumbersStay t l now.nodes new.nodes) so_far.items stay;
+    later = refl;
+  });
 }
 
 -- one alone
