@@ -1,12 +1,12 @@
 -- The least of what transactions leave at the ends of a list: after one more of them, and over whole
 -- lists.
-use Rattle.std.proofs.Common.{◌≡◌, ◌≤◌, ◌<◌, ◌+◌, ◌-◌, ℕ, List, [], ◌∷◌, ◌++◌, length, map, take, get_or, min, refl, sym, ap, ◌∙◌, subst, arith}
+use Rattle.std.proofs.Common.{◌≡◌, ◌≤◌, ◌<◌, ◌+◌, ◌-◌, ℕ, List, [], ◌∷◌, ◌++◌, length, map, take, get_or, min, refl, sym, ap, ◌∙◌, arith}
 use Rattle.std.specs.Prelude.{fold}
 use Rattle.std.proofs.lemmas.List.{take_all}
 use Rattle.std.proofs.lemmas.List.Sums.{fold-append, fold_more}
 use Rattle.std.proofs.lemmas.List.Folds.{fold-map}
 use Rattle.ve_base.specs.declared.value.Value.{Value}
-use Rattle.model_change.specs.Join.{first, last, core, reach, end_of}
+use Rattle.model_change.specs.Join.{first, last, core, reach}
 use Rattle.model_change.specs.Replay.{flattened}
 use Rattle.model_change.specs.Transaction.{Transaction, old_length}
 use Rattle.model_site.specs.Entries.{parcels}

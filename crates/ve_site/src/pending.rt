@@ -62,10 +62,11 @@ pub fn admit_under<L: Ledger>(
     requires left { left ≤ length (sent.now ++ unsent.now) }
     requires cites { ParcelCites committed.now }
     requires stands { AllStand (parcel_by_value committed.now)
-        (all_reverted (map (entry_by_value editor.old.store) (drop left (sent.now ++ unsent.now))) (replica_of editor.old)).items }
+        (all_reverted (map (entry_by_value editor.old.store) (drop left (sent.now ++ unsent.now)))
+        (replica_of editor.old)).items }
     ensures admitted { OnOk result (
-        IsAdmitted (replica_of editor.old) (sent.now ++ unsent.now) left (parcel_by_value committed.now)
-        (replica_of editor.new)) }
+        IsAdmitted (replica_of editor.old) (sent.now ++ unsent.now) left
+        (parcel_by_value committed.now) (replica_of editor.new)) }
     ensures stored { IfOk result (λ stored. stored ≡ length editor.new.store) }
     ensures counted { steps.old ≤ steps.new }
     ensures steps { steps.new
@@ -92,7 +93,8 @@ pub fn admit_each<L: Ledger>(
     requires cite { All ParcelCites parcels.now }
     requires stand { AllStand (flattened (map parcel_by_value parcels.now)) editor.old.items }
     ensures page { OnOk result (
-        (replica_of editor.new) ≡ all_performed (flattened (map parcel_by_value parcels.now)) (replica_of editor.old)) }
+        replica_of editor.new
+        ≡ all_performed (flattened (map parcel_by_value parcels.now)) (replica_of editor.old)) }
     ensures counted { steps.old ≤ steps.new }
     ensures steps { steps.new
         ≤ steps.old

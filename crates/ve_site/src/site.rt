@@ -204,7 +204,8 @@ impl Site {
     pub fn settle(&mut self, editor: Editor, entry: Entry) -> Result<(), Memory>
         requires settles { Settles self.old.site.replica (replica_of editor) entry }
         ensures site { OnOk result (
-            self.new ≡ with_site (with_new_entry (replica_of editor) entry self.old.site) self.old) }
+            self.new
+            ≡ with_site (with_new_entry (replica_of editor) entry self.old.site) self.old) }
         ensures kept { OnErr result (self.new ≡ self.old) }
     {
         self.history.reserve()?;

@@ -4,6 +4,7 @@ use Rattle.model_site.specs.Entries.{Entry as ModelEntry}
 use Rattle.model_site.specs.Replica.{Replica}
 use Rattle.ve_tx.specs.ByValue.{parcel_by_value}
 use Rattle.ve_editor.specs.Edited.{AllStand}
+use Rattle.ve_editor.specs.Page.{replica_of}
 use Rattle.ve_site.specs.Dropped.{back_over}
 use Rattle.ve_site.proofs.DropLemmas.{admit_counts, back_counts}
 use Rattle.ve_site.proofs.pending.admit_under.Goals as goal
@@ -21,7 +22,7 @@ admit_in_place-requires-clause-stands g c =
     subst (λ (r : Replica). AllStand (parcel_by_value c.args.committed.now) r.items) (sym c.in_ok-take_back.ensures.dropped.page) c.requires.stands
 
 pub returns-clause-admitted : goal.returns-clause-admitted
-returns-clause-admitted g c = record { middle = c.take_back.new.editor; dropped = c.in_ok-take_back.ensures.dropped; page = c.in_ok-last.ensures.page }
+returns-clause-admitted g c = record { middle = replica_of c.take_back.new.editor; dropped = c.in_ok-take_back.ensures.dropped; page = c.in_ok-last.ensures.page }
 
 pub returns-clause-stored : goal.returns-clause-stored
 returns-clause-stored g c = ap (λ (e : ModelEntry). e.store_after) c.in_ok-last.ensures.entry ∙ ap (λ (r : Replica). length r.store) (sym c.in_ok-last.ensures.page)
@@ -33,10 +34,10 @@ returns-in_err-take_back-clause-steps g c =
 
 pub returns-in_err-last-clause-steps : goal.returns-in_err-last-clause-steps
 returns-in_err-last-clause-steps g c =
-    admit_counts c.args.editor.now c.take_back.new.editor _ _ (parcel_by_value c.args.committed.now) c.in_ok-take_back.ensures.dropped c.args.steps.now c.take_back.new.steps
+    admit_counts (replica_of c.args.editor.now) (replica_of c.take_back.new.editor) _ _ (parcel_by_value c.args.committed.now) c.in_ok-take_back.ensures.dropped c.args.steps.now c.take_back.new.steps
     c.admit_in_place.new.steps c.take_back.ensures.steps c.admit_in_place.ensures.steps
 
 pub returns-clause-steps : goal.returns-clause-steps
 returns-clause-steps g c =
-    admit_counts c.args.editor.now c.take_back.new.editor _ _ (parcel_by_value c.args.committed.now) c.in_ok-take_back.ensures.dropped c.args.steps.now c.take_back.new.steps
+    admit_counts (replica_of c.args.editor.now) (replica_of c.take_back.new.editor) _ _ (parcel_by_value c.args.committed.now) c.in_ok-take_back.ensures.dropped c.args.steps.now c.take_back.new.steps
     c.admit_in_place.new.steps c.take_back.ensures.steps c.admit_in_place.ensures.steps

@@ -1,6 +1,7 @@
 use Rattle.std.proofs.Common.{◌≡◌, ◌≤◌, ◌<◌, ◌+◌, ◌-◌, ◌++◌, length, take, drop, subst, arith}
 use Rattle.std.proofs.lemmas.List.{length-append}
 use Rattle.model_change.specs.Cost.{cost_of_transactions}
+use Rattle.ve_editor.specs.Page.{replica_of}
 use Rattle.ve_site.specs.Dropped.{AreDropped, back_over}
 use Rattle.ve_site.proofs.DropLemmas.{at_cites, at_counts, at_gone, at_may_go, at_uncited, gone_within, none_taken_back}
 use Rattle.ve_site.proofs.pending.take_back.Goals as goal
@@ -9,7 +10,7 @@ pub loop-at-init : goal.loop-at-init
 loop-at-init g c = record {
   from = c.requires.left;
   within = omega arith;
-  dropped = none_taken_back c.args.editor.now (c.args.sent.now ++ c.args.unsent.now) c.args.count c.requires.stack c.requires.count;
+  dropped = none_taken_back (replica_of c.args.editor.now) (c.args.sent.now ++ c.args.unsent.now) c.args.count c.requires.stack c.requires.count;
   counted = omega arith;
   spent = omega arith;
 }
@@ -25,7 +26,7 @@ revert_in_place-requires-clause-cites g c =
     let k = c.loop-at.at - 1 in
     let next : c.loop-at.at ≡ k + 1 = omega (arith, c.loop-at-test.true) in
     let below : k < length all = omega (arith, c.requires.count, c.loop-at.invariant.within, c.loop-at-test.true) in
-    at_cites c.args.editor.now c.loop-at.editor all c.loop-at.at k c.entry_in.result.now c.loop-at.invariant.dropped next below c.entry_in.ensures
+    at_cites (replica_of c.args.editor.now) (replica_of c.loop-at.editor) all c.loop-at.at k c.entry_in.result.now c.loop-at.invariant.dropped next below c.entry_in.ensures
 
 pub revert_in_place-requires-clause-stands : goal.revert_in_place-requires-clause-stands
 revert_in_place-requires-clause-stands g c =
@@ -33,7 +34,7 @@ revert_in_place-requires-clause-stands g c =
     let k = c.loop-at.at - 1 in
     let next : c.loop-at.at ≡ k + 1 = omega (arith, c.loop-at-test.true) in
     let below : k < length all = omega (arith, c.requires.count, c.loop-at.invariant.within, c.loop-at-test.true) in
-    at_may_go c.args.editor.now c.loop-at.editor all c.loop-at.at k c.entry_in.result.now c.loop-at.invariant.dropped next below c.entry_in.ensures
+    at_may_go (replica_of c.args.editor.now) (replica_of c.loop-at.editor) all c.loop-at.at k c.entry_in.result.now c.loop-at.invariant.dropped next below c.entry_in.ensures
 
 pub revert_in_place-requires-clause-uncited : goal.revert_in_place-requires-clause-uncited
 revert_in_place-requires-clause-uncited g c =
@@ -41,7 +42,7 @@ revert_in_place-requires-clause-uncited g c =
     let k = c.loop-at.at - 1 in
     let next : c.loop-at.at ≡ k + 1 = omega (arith, c.loop-at-test.true) in
     let below : k < length all = omega (arith, c.requires.count, c.loop-at.invariant.within, c.loop-at-test.true) in
-    at_uncited c.args.editor.now c.loop-at.editor all c.loop-at.at k c.entry_in.result.now c.loop-at.invariant.dropped next below c.entry_in.ensures
+    at_uncited (replica_of c.args.editor.now) (replica_of c.loop-at.editor) all c.loop-at.at k c.entry_in.result.now c.loop-at.invariant.dropped next below c.entry_in.ensures
 
 pub loop-at-preserved : goal.loop-at-preserved
 loop-at-preserved g c =
@@ -52,10 +53,10 @@ loop-at-preserved g c =
     record {
       from = omega (arith, c.loop-at-test.true);
       within = omega (arith, c.loop-at.invariant.within);
-      dropped = at_gone c.args.editor.now c.loop-at.editor all c.loop-at.at k c.entry_in.result.now c.loop-at.invariant.dropped next below c.entry_in.ensures c.revert_in_place.new.self
+      dropped = at_gone (replica_of c.args.editor.now) (replica_of c.loop-at.editor) all c.loop-at.at k c.entry_in.result.now c.loop-at.invariant.dropped next below c.entry_in.ensures (replica_of c.revert_in_place.new.self)
           c.in_ok-revert_in_place.ensures.page;
       counted = omega (arith, c.loop-at.invariant.counted, c.revert_in_place.ensures.counted);
-      spent = at_counts c.args.editor.now c.loop-at.editor all c.loop-at.at k c.entry_in.result.now c.loop-at.invariant.dropped next below c.entry_in.ensures c.args.steps.now c.loop-at.steps
+      spent = at_counts (replica_of c.args.editor.now) (replica_of c.loop-at.editor) all c.loop-at.at k c.entry_in.result.now c.loop-at.invariant.dropped next below c.entry_in.ensures c.args.steps.now c.loop-at.steps
           c.revert_in_place.new.steps c.loop-at.invariant.spent c.revert_in_place.ensures.steps;
     }
 
@@ -65,7 +66,7 @@ returns-in_err-revert_in_place-clause-steps g c =
     let k = c.loop-at.at - 1 in
     let next : c.loop-at.at ≡ k + 1 = omega (arith, c.loop-at-test.true) in
     let below : k < length all = omega (arith, c.requires.count, c.loop-at.invariant.within, c.loop-at-test.true) in
-    let one = at_counts c.args.editor.now c.loop-at.editor all c.loop-at.at k c.entry_in.result.now c.loop-at.invariant.dropped next below c.entry_in.ensures c.args.steps.now c.loop-at.steps
+    let one = at_counts (replica_of c.args.editor.now) (replica_of c.loop-at.editor) all c.loop-at.at k c.entry_in.result.now c.loop-at.invariant.dropped next below c.entry_in.ensures c.args.steps.now c.loop-at.steps
     c.revert_in_place.new.steps c.loop-at.invariant.spent c.revert_in_place.ensures.steps in
     let more = gone_within c.args.editor.now.store all c.args.left k c.args.editor.now.items (omega (arith, c.loop-at-test.true)) in
     omega (arith, one, more)
@@ -74,7 +75,7 @@ pub returns-clause-dropped : goal.returns-clause-dropped
 returns-clause-dropped g c =
     let all = c.args.sent.now ++ c.args.unsent.now in
     let same : c.loop-at.at ≡ c.args.left = omega (arith, c.loop-at.invariant.from, c.loop-at-test.false) in
-    subst (λ n. AreDropped c.args.editor.now (take n all) (drop n all) c.loop-at.editor) same c.loop-at.invariant.dropped
+    subst (λ n. AreDropped (replica_of c.args.editor.now) (take n all) (drop n all) (replica_of c.loop-at.editor)) same c.loop-at.invariant.dropped
 
 pub returns-clause-steps : goal.returns-clause-steps
 returns-clause-steps g c =

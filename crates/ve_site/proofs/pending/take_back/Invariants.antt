@@ -1,5 +1,6 @@
 use Rattle.std.proofs.Common.{◌≤◌, ◌+◌, ◌++◌, take, drop}
 use Rattle.model_change.specs.Cost.{cost_of_transactions}
+use Rattle.ve_editor.specs.Page.{replica_of}
 use Rattle.ve_site.specs.Dropped.{AreDropped, back_over}
 use Rattle.ve_site.proofs.pending.take_back.Given as goal
 
@@ -7,7 +8,7 @@ abbrev pub invariant-loop-at : goal.invariant-loop-at
 invariant-loop-at g l = record {
   from : l.left ≤ l.at;
   within : l.at ≤ l.count;
-  dropped : AreDropped l.fn.editor (take l.at (l.sent ++ l.unsent)) (drop l.at (l.sent ++ l.unsent)) l.editor;
+  dropped : AreDropped (replica_of l.fn.editor) (take l.at (l.sent ++ l.unsent)) (drop l.at (l.sent ++ l.unsent)) (replica_of l.editor);
   counted : l.fn.steps ≤ l.steps;
   spent : l.steps ≤ l.fn.steps + cost_of_transactions (back_over l.fn.editor.store (drop l.at (l.sent ++ l.unsent))) l.fn.editor.items;
 }

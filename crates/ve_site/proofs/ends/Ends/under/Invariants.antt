@@ -1,4 +1,4 @@
-use Rattle.std.proofs.Common.{◌≡◌, List, All, map, take}
+use Rattle.std.proofs.Common.{◌≡◌, List, All, take}
 use Rattle.ve_base.specs.declared.value.Value.{Value}
 use Rattle.std.specs.Prelude.{fold}
 use Rattle.ve_site.proofs.EndLemmas.{AtMost, TxLeaves}

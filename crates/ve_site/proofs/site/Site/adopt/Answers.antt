@@ -8,6 +8,7 @@ use Rattle.ve_tx.specs.ByValue.{parcel_by_value}
 use Rattle.ve_tx.proofs.ChangeLemmas.{ok-holds}
 use Rattle.ve_editor.specs.Counted.{steps_over}
 use Rattle.ve_editor.specs.Edited.{AllStand}
+use Rattle.ve_editor.specs.Page.{replica_of}
 use Rattle.ve_site.specs.Numbered.{Numbered, with_site, IsSite}
 use Rattle.ve_site.proofs.StandsLemmas.{all_stand}
 use Rattle.ve_site.proofs.StepLemmas.{roomy_same, roomy_is, with_entry_same, with_entry_is}
@@ -26,14 +27,14 @@ invariant_of-self-2 g c =
     let now = c.push.new.self in
     let e = c.in_ok-entry.entry in
     let f = c.in_ok-entry.ensures in
-    let is = roomy_is s.editor s.untold s.seen s.sent.items s.history s.shared s.in_flight c.self.invariant room c.reserve.ensures.done c.reserve.ensures.undone in
+    let is = roomy_is (replica_of s.editor) s.untold s.seen s.sent.items s.history s.shared s.in_flight c.self.invariant room c.reserve.ensures.done c.reserve.ensures.undone in
     let ok : is_ok c.push.result ≡ true = sym c.is_ok-adopted.ensures.value ∙ c.if-prove.false in
     let done = ok-holds (now.done ≡ room.done ++ e ∷ []) c.push.result ok c.push.ensures.done in
     let undone = ok-holds (now.undone ≡ []) c.push.result ok c.push.ensures.undone in
     let noted : c.note.new.self ≡ passed (map (by_value c.admit.new.self.store) e.txs) s.untold =
     c.note.ensures c.admit.new.self.store ∙ ap (λ (txs : List (List Operation)). passed (map (by_value c.admit.new.self.store) txs) s.untold) c.as_slice.ensures in
     let run = subst (λ (x : Site). AllRun ts x.replica.items) (ap (λ (v : Numbered). v.site) (sym c.self.view_is)) c.requires.run in
-    with_entry_is s.editor s.untold s.seen s.sent.items room s.shared s.in_flight is ts c.admit.new.self e now c.note.new.self f.page f.entry f.cites done noted undone (AllMayRun_from_runs ts s.editor.items run)
+    with_entry_is (replica_of s.editor) s.untold s.seen s.sent.items room s.shared s.in_flight is ts (replica_of c.admit.new.self) e now c.note.new.self f.page f.entry f.cites done noted undone (AllMayRun_from_runs ts s.editor.items run)
 
 pub returns-clause-site : goal.returns-clause-site
 returns-clause-site g c =
@@ -43,15 +44,15 @@ returns-clause-site g c =
     let now = c.push.new.self in
     let e = c.in_ok-entry.entry in
     let f = c.in_ok-entry.ensures in
-    let is = roomy_is s.editor s.untold s.seen s.sent.items s.history s.shared s.in_flight c.self.invariant room c.reserve.ensures.done c.reserve.ensures.undone in
+    let is = roomy_is (replica_of s.editor) s.untold s.seen s.sent.items s.history s.shared s.in_flight c.self.invariant room c.reserve.ensures.done c.reserve.ensures.undone in
     let ok : is_ok c.push.result ≡ true = sym c.is_ok-adopted.ensures.value ∙ c.if-prove.false in
     let done = ok-holds (now.done ≡ room.done ++ e ∷ []) c.push.result ok c.push.ensures.done in
     let undone = ok-holds (now.undone ≡ []) c.push.result ok c.push.ensures.undone in
     let noted : c.note.new.self ≡ passed (map (by_value c.admit.new.self.store) e.txs) s.untold =
     c.note.ensures c.admit.new.self.store ∙ ap (λ (txs : List (List Operation)). passed (map (by_value c.admit.new.self.store) txs) s.untold) c.as_slice.ensures in
-    let same = roomy_same s.editor s.untold s.seen s.sent.items s.history s.shared s.in_flight c.self.invariant room c.reserve.ensures.done c.reserve.ensures.undone in
+    let same = roomy_same (replica_of s.editor) s.untold s.seen s.sent.items s.history s.shared s.in_flight c.self.invariant room c.reserve.ensures.done c.reserve.ensures.undone in
     ap (λ (x : Site). record { number = s.number; site = x })
-    (with_entry_same s.editor s.untold s.seen s.sent.items room s.shared s.in_flight is ts c.admit.new.self e now c.note.new.self f.page f.entry f.cites done noted undone ∙ ap (with_entry ts) same)
+    (with_entry_same (replica_of s.editor) s.untold s.seen s.sent.items room s.shared s.in_flight is ts (replica_of c.admit.new.self) e now c.note.new.self f.page f.entry f.cites done noted undone ∙ ap (with_entry ts) same)
     ∙ ap (λ (v : Numbered). with_site (with_entry ts v.site) v) c.self.view_is
 
 pub returns-in_err-entry-clause-steps : goal.returns-in_err-entry-clause-steps
@@ -66,5 +67,5 @@ pub invariant_of-self-in_err-entry : goal.invariant_of-self-in_err-entry
 invariant_of-self-in_err-entry g c =
     let s = c.self.inside in
     let room = c.reserve.new.self in
-    subst (λ r. IsSite r s.seen s.sent.items room s.shared s.in_flight) (sym c.in_err-entry.ensures.kept)
-    (roomy_is s.editor s.untold s.seen s.sent.items s.history s.shared s.in_flight c.self.invariant room c.reserve.ensures.done c.reserve.ensures.undone)
+    subst (λ r. IsSite r s.seen s.sent.items room s.shared s.in_flight) (sym c.in_err-entry.ensures.kept.page)
+    (roomy_is (replica_of s.editor) s.untold s.seen s.sent.items s.history s.shared s.in_flight c.self.invariant room c.reserve.ensures.done c.reserve.ensures.undone)

@@ -8,6 +8,7 @@ use Rattle.model_site.specs.Site.{Site, edit}
 use Rattle.ve_tx.proofs.ChangeLemmas.{normal-reduced, ok-holds}
 use Rattle.ve_editor.specs.Edited.{drafted, drafted_values}
 use Rattle.ve_editor.specs.Refusal.{IsEditRefusal}
+use Rattle.ve_editor.specs.Page.{replica_of}
 use Rattle.ve_site.specs.Numbered.{Numbered, IsSite}
 use Rattle.ve_site.proofs.StepLemmas.{roomy_same, roomy_is, edit_is, edited_is}
 use Rattle.model_change.specs.Cost.{cost_of_transactions}
@@ -27,7 +28,7 @@ invariant_of-self-2 g c =
     let t = drafted s.editor.store c.args.draft.now in
     let e = c.in_ok-entry.entry in
     let now = c.push.new.self in
-    let is = roomy_is s.editor s.untold s.seen s.sent.items s.history s.shared s.in_flight c.self.invariant room c.reserve.ensures.done c.reserve.ensures.undone in
+    let is = roomy_is (replica_of s.editor) s.untold s.seen s.sent.items s.history s.shared s.in_flight c.self.invariant room c.reserve.ensures.done c.reserve.ensures.undone in
     let ok : is_ok c.push.result ≡ true = sym c.is_ok-pushed.ensures.value ∙ c.if-prove.false in
     let done = ok-holds (now.done ≡ room.done ++ e ∷ []) c.push.result ok c.push.ensures.done in
     let undone = ok-holds (now.undone ≡ []) c.push.result ok c.push.ensures.undone in
@@ -37,7 +38,7 @@ invariant_of-self-2 g c =
     let site = ap (λ (v : Numbered). v.site) (sym c.self.view_is) in
     let apart = subst (λ (x : Site). InsertedApart (drafted x.replica.store c.args.draft.now)) site c.requires.apart in
     let f = c.in_ok-entry.ensures in
-    edited_is s.editor s.untold s.seen s.sent.items room s.shared s.in_flight is t c.perform.new.self e now c.note.new.self f.allowed f.page f.entry f.cites done noted undone reduced apart
+    edited_is (replica_of s.editor) s.untold s.seen s.sent.items room s.shared s.in_flight is t (replica_of c.perform.new.self) e now c.note.new.self f.allowed f.page f.entry f.cites done noted undone reduced apart
 
 pub returns-clause-site : goal.returns-clause-site
 returns-clause-site g c =
@@ -46,16 +47,16 @@ returns-clause-site g c =
     let t = drafted s.editor.store c.args.draft.now in
     let e = c.in_ok-entry.entry in
     let now = c.push.new.self in
-    let is = roomy_is s.editor s.untold s.seen s.sent.items s.history s.shared s.in_flight c.self.invariant room c.reserve.ensures.done c.reserve.ensures.undone in
+    let is = roomy_is (replica_of s.editor) s.untold s.seen s.sent.items s.history s.shared s.in_flight c.self.invariant room c.reserve.ensures.done c.reserve.ensures.undone in
     let ok : is_ok c.push.result ≡ true = sym c.is_ok-pushed.ensures.value ∙ c.if-prove.false in
     let done = ok-holds (now.done ≡ room.done ++ e ∷ []) c.push.result ok c.push.ensures.done in
     let undone = ok-holds (now.undone ≡ []) c.push.result ok c.push.ensures.undone in
     let noted : c.note.new.self ≡ passed (map (by_value c.perform.new.self.store) e.txs) s.untold =
     c.note.ensures c.perform.new.self.store ∙ ap (λ (txs : List (List Operation)). passed (map (by_value c.perform.new.self.store) txs) s.untold) c.as_slice.ensures in
     let f = c.in_ok-entry.ensures in
-    let same = roomy_same s.editor s.untold s.seen s.sent.items s.history s.shared s.in_flight c.self.invariant room c.reserve.ensures.done c.reserve.ensures.undone in
+    let same = roomy_same (replica_of s.editor) s.untold s.seen s.sent.items s.history s.shared s.in_flight c.self.invariant room c.reserve.ensures.done c.reserve.ensures.undone in
     ap (λ (x : Site). edit (drafted x.replica.store c.args.draft.now) x) (sym (same ∙ ap (λ (v : Numbered). v.site) c.self.view_is))
-    ∙ edit_is s.editor s.untold s.seen s.sent.items room s.shared s.in_flight is t c.perform.new.self e now c.note.new.self f.allowed f.page f.entry f.cites done noted undone
+    ∙ edit_is (replica_of s.editor) s.untold s.seen s.sent.items room s.shared s.in_flight is t (replica_of c.perform.new.self) e now c.note.new.self f.allowed f.page f.entry f.cites done noted undone
 
 one_more : (now after a : ℕ) → after ≤ now + a → after ≤ now + (a + 0)
 one_more now after a h = omega arith
@@ -74,5 +75,5 @@ pub invariant_of-self-in_err-entry : goal.invariant_of-self-in_err-entry
 invariant_of-self-in_err-entry g c =
     let s = c.self.inside in
     let room = c.reserve.new.self in
-    subst (λ r. IsSite r s.seen s.sent.items room s.shared s.in_flight) (sym c.in_err-entry.ensures.kept)
-    (roomy_is s.editor s.untold s.seen s.sent.items s.history s.shared s.in_flight c.self.invariant room c.reserve.ensures.done c.reserve.ensures.undone)
+    subst (λ r. IsSite r s.seen s.sent.items room s.shared s.in_flight) (sym c.in_err-entry.ensures.kept.page)
+    (roomy_is (replica_of s.editor) s.untold s.seen s.sent.items s.history s.shared s.in_flight c.self.invariant room c.reserve.ensures.done c.reserve.ensures.undone)

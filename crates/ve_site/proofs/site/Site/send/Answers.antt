@@ -2,6 +2,7 @@ use Rattle.std.proofs.Common.{◌≡◌, ◌++◌, All, length, map, Some, Ok, I
 use Rattle.model_site.specs.Entries.{parcels}
 use Rattle.model_site.specs.Site.{send}
 use Rattle.ve_editor.specs.Edited.{entry_by_value, EntryCites}
+use Rattle.ve_editor.specs.Page.{replica_of}
 use Rattle.ve_site.specs.Numbered.{Numbered, site_of}
 use Rattle.ve_site.proofs.RefusalLemmas.{refusal_is, not_memory, may_send}
 use Rattle.ve_site.proofs.SendLemmas.{unsent_cite, send_is, sent_is}
@@ -25,7 +26,7 @@ returns-then-is_err-clause-memory c = λ _. may_send (send c.args.self.now.site)
 pub parcels_of-requires : goal.parcels_of-requires
 parcels_of-requires c =
     let s = c.self.inside in
-    let cite = unsent_cite s.editor s.untold s.seen s.sent.items s.history s.shared s.in_flight c.self.invariant in
+    let cite = unsent_cite (replica_of s.editor) s.untold s.seen s.sent.items s.history s.shared s.in_flight c.self.invariant in
     subst (λ store. All (EntryCites store) c.done-unsent.result.now) (sym c.doc.ensures.store) (subst (All (EntryCites s.editor.store)) (sym c.done-unsent.ensures) cite)
 
 pub invariant_of-self-2 : goal.invariant_of-self-2
@@ -34,7 +35,7 @@ invariant_of-self-2 c =
     let all = c.append.ensures.items
     ∙ (ap (λ b. if b then c.reserve.new.self.items ++ c.into_vec-moved.result.items else c.reserve.new.self.items) (sym c.if-prove.ensures.value)
     ∙ (ap (λ es. es ++ c.into_vec-moved.result.items) c.reserve.ensures.items ∙ ap (λ es. s.sent.items ++ es) (c.into_vec-moved.ensures ∙ c.replace_done.ensures.handed))) in
-    sent_is s.editor s.untold s.seen s.sent.items s.history s.shared s.in_flight c.self.invariant c.replace_done.new.self c.append.new.self.items (length c.done-unsent.result.now) c.in-Some-checked_add.shared
+    sent_is (replica_of s.editor) s.untold s.seen s.sent.items s.history s.shared s.in_flight c.self.invariant c.replace_done.new.self c.append.new.self.items (length c.done-unsent.result.now) c.in-Some-checked_add.shared
     all (c.replace_done.ensures.done ∙ c.new-none.ensures) c.replace_done.ensures.undone (ap length c.done-unsent.ensures) c.in-Some-checked_add.ensures.1
 
 pub returns-clause-sent : goal.returns-clause-sent
@@ -48,8 +49,8 @@ returns-clause-sent c =
     let values : c.in-Ok.parcels ≡ parcels (map (entry_by_value s.editor.store) s.history.done) =
     c.in-Ok.ensures
     ∙ (ap (λ store. parcels (map (entry_by_value store) c.done-unsent.result.now)) c.doc.ensures.store ∙ ap (λ es. parcels (map (entry_by_value s.editor.store) es)) c.done-unsent.ensures) in
-    let next = site_of s.editor s.untold s.seen c.append.new.self.items c.replace_done.new.self c.in-Some-checked_add.shared (Some count) in
+    let next = site_of (replica_of s.editor) s.untold s.seen c.append.new.self.items c.replace_done.new.self c.in-Some-checked_add.shared (Some count) in
     ap send (ap (λ (v : Numbered). v.site) (sym c.self.view_is))
-    ∙ (send_is s.editor s.untold s.seen s.sent.items s.history s.shared s.in_flight c.self.invariant c.replace_done.new.self c.append.new.self.items count c.in-Some-checked_add.shared
+    ∙ (send_is (replica_of s.editor) s.untold s.seen s.sent.items s.history s.shared s.in_flight c.self.invariant c.replace_done.new.self c.append.new.self.items count c.in-Some-checked_add.shared
     all (c.replace_done.ensures.done ∙ c.new-none.ensures) c.replace_done.ensures.undone (ap length c.done-unsent.ensures) c.in-Some-checked_add.ensures.1 (subst (λ (v : Numbered). IsOk (send v.site)) (sym c.self.view_is) may)
     ∙ ap (λ es. Ok (next, record { base = s.seen; entries = es })) (sym values))

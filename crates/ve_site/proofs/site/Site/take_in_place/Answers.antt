@@ -2,6 +2,7 @@ use Rattle.std.proofs.Common.{length, map, refl, arith}
 use Rattle.std.proofs.lemmas.List.{length-map}
 use Rattle.std.proofs.lemmas.Result.{IfOk-weaker}
 use Rattle.ve_tx.specs.ByValue.{parcel_by_value}
+use Rattle.ve_editor.specs.Page.{replica_of}
 use Rattle.ve_site.specs.Underway.{AreTakenInPlace, IsTakenInPlace}
 use Rattle.ve_site.proofs.InPlaceLemmas.{just_one, one_counts, one_taken}
 use Rattle.ve_site.proofs.SeveralLemmas.{several_make_copy}
@@ -11,7 +12,7 @@ use Rattle.ve_site.proofs.site.Site.take_in_place.Goals as goal
 pub invariant_of-self : goal.invariant_of-self
 invariant_of-self g c =
     let s = c.self.inside in
-    copied_is s.editor s.untold s.seen s.sent.items s.history s.shared s.in_flight c.self.invariant s.editor s.sent.items c.clear_undone.new.self refl refl c.clear_undone.ensures.done
+    copied_is (replica_of s.editor) s.untold s.seen s.sent.items s.history s.shared s.in_flight c.self.invariant (replica_of s.editor) s.sent.items c.clear_undone.new.self refl refl c.clear_undone.ensures.done
     c.clear_undone.ensures.undone
 
 pub returns-then-parcels-gt1-clause-taken : goal.returns-then-parcels-gt1-clause-taken
