@@ -39,12 +39,14 @@ fn perform_one<L: Ledger>(
     ensures ok { IfOk result (
         IsPerformed (replica_of editor.old) (change_on (replica_of editor.old) change.now)
         (replica_of editor.new)) }
-    ensures refused { IfErr result (λ why. IsRefused why (change_on (replica_of editor.old) change.now)) }
+    ensures refused { IfErr result (λ why.
+        IsRefused why (change_on (replica_of editor.old) change.now)) }
     ensures counted { steps.old ≤ steps.new }
     ensures steps { IfErr result (λ stop. stop ≢ ChangeStop.Memory)
         → steps.new
         ≤ steps.old
-        + cost_of_transactions (made_of (change_on (replica_of editor.old) change.now)) editor.old.items }
+        + cost_of_transactions (made_of (change_on (replica_of editor.old) change.now))
+        editor.old.items }
 {
     // a change that was read and isn't refused may be performed
     layers_fit();

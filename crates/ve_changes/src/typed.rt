@@ -72,13 +72,15 @@ pub fn type_text<L: Ledger>(
     requires sound { Sound editor.now.items }
     ensures ok { IfOk result (IsTyped (replica_of editor.now) text.now) }
     ensures refused { IfErr result (
-        IsBatchRefused (batch_on (replica_of editor.now) (model.typing editor.now.selection text.now))) }
+        IsBatchRefused (
+        batch_on (replica_of editor.now) (model.typing editor.now.selection text.now))) }
     ensures counted { steps.old ≤ steps.new }
     ensures steps { IfErr result (λ stop. stop ≢ BatchStop.Memory)
         → steps.new
         ≤ steps.old
         + cost_of_made true (
-        made_in_turn (replica_of editor.now) (model.typing editor.now.selection text.now)) editor.now.items }
+        made_in_turn (replica_of editor.now) (model.typing editor.now.selection text.now))
+        editor.now.items }
 {
     let changes = typing(alloc, editor.selection(), text)?;
     match perform_all(alloc, editor, changes.as_slice(), steps) {

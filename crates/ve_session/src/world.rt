@@ -68,7 +68,8 @@ impl World {
 
     /// Lends the editor of a site: None where no page is open, and where the site is none.
     pub fn editor(&self, site: usize) -> Option<&Editor>
-        ensures { option_map (λ editor. replica_of editor.now) result ≡ replica_in self.now.world site }
+        ensures { option_map (λ editor. replica_of editor.now) result
+            ≡ replica_in self.now.world site }
     {
         match &self.page {
             Some(page) if site < page.sites() => Some(page.editor(site)),

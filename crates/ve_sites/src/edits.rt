@@ -82,7 +82,8 @@ impl Sites {
         requires settles { Settles (site_at self.old k).replica (replica_of editor) entry }
         ensures site { OnOk result (
             self.new
-            ≡ with_site_at k (with_new_entry (replica_of editor) entry (site_at self.old k)) self.old) }
+            ≡ with_site_at k (with_new_entry (replica_of editor) entry (site_at self.old k))
+            self.old) }
         ensures kept { OnErr result (self.new ≡ self.old) }
     {
         self.members[k].settle(editor, entry)
