@@ -32,7 +32,7 @@ use Rattle.ve_changes.specs.declared.faults.ChangeStop.{ChangeStop}
 use Rattle.ve_changes.specs.declared.faults.ChangeStop.TheVariants as one
 use Rattle.ve_changes.specs.Drafts.{IsDrafted}
 use Rattle.ve_changes.specs.Stops.{IsRefused}
-use Rattle.ve_changes.specs.Batches.{IsBatchRefused, IsMade, IsPerformed, no_entry, stop_at}
+use Rattle.ve_changes.specs.Batches.{IsBatch, IsBatchRefused, IsPerformed, no_entry, stop_at}
 
 -- ---- transactions one after the other
 
@@ -214,12 +214,12 @@ module _ (r now new : Replica) (changes rest : List EditCommand) (c : EditComman
       let later : cost_of_changes new rest ≡ cost_of_changes (performed p.t now) rest = ap (λ (x : Replica). cost_of_changes x rest) p.page in
       omega (arith, h, k, whole, one, later)
 
-pub all_made : (r now : Replica) (changes rest : List EditCommand) (i : ℕ) (e : KeptEntry) → SoFar r changes rest i now e → rest ≡ [] → IsMade r (batch_on r changes) now e
+pub all_made : (r now : Replica) (changes rest : List EditCommand) (i : ℕ) (e : KeptEntry) → SoFar r changes rest i now e → rest ≡ [] → IsBatch r (batch_on r changes) now e
 all_made r now changes rest i e s none = record {
   ts = s.ts;
-  same = s.meant ∙ ap (λ l. after s.ts (batch_from i l now)) none ∙ ap Ok (append-nil s.ts);
+  asked = s.meant ∙ ap (λ l. after s.ts (batch_from i l now)) none ∙ ap Ok (append-nil s.ts);
   may = s.may;
-  editor = s.page;
+  page = s.page;
   entry = s.entry;
   cites = s.cites;
 }

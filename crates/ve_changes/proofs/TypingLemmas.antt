@@ -1,5 +1,5 @@
 -- Typing, and where its caret stands.
-use Rattle.std.proofs.Common.{◌≡◌, ◌==◌, ℕ, Bool, true, false, if◌then◌else◌, List, [], ◌∷◌, ◌++◌, ◌≢◌, map, refl, ap, ◌∙◌, sym, eq-eqb, eqb-true}
+use Rattle.std.proofs.Common.{◌≡◌, ◌==◌, ℕ, Bool, true, false, if◌then◌else◌, List, [], ◌∷◌, ◌++◌, ◌≢◌, map, Ok, refl, ap, ◌∙◌, sym, eq-eqb, eqb-true}
 use Rattle.ve_base.specs.declared.value.Value.{Value}
 use Rattle.model_edit.specs.declared.selection.Selection.{Selection}
 use Rattle.model_site.specs.Entries.{Entry}
@@ -10,9 +10,10 @@ use Rattle.model_world.specs.declared.edit_command.TextMarks.TheVariants.{Left}
 use Rattle.model_world.specs.Answers.{after_text, is_collapsed, lower, higher, typing}
 use Rattle.model_world.specs.Edits.{batch_on}
 use Rattle.model_world_law.specs.Fit.{AllWritten}
+use Rattle.ve_tx.specs.declared.entry.Entry.{Entry as KeptEntry}
 use Rattle.ve_tx.specs.Operation.{by_value}
-use Rattle.ve_changes.specs.declared.batch.Batch.{Batch}
-use Rattle.ve_changes.specs.Batches.{IsBatch, IsTyped}
+use Rattle.ve_editor.specs.Trials.{IsMade}
+use Rattle.ve_changes.specs.Batches.{IsBatch}
 use Rattle.ve_changes.proofs.TypedCaretLemmas.{filled_text}
 
 -- the changes of a caret, and those of a range
@@ -48,9 +49,14 @@ typing_is_written s text = by (is_collapsed s)
     by true = (tt, tt)
     by false = (tt, (tt, tt))
 
-pub caret_is : (r : Replica) (text : List ℕ) (b : Batch) (caret : ℕ) → IsBatch r (batch_on r (typing r.selection text)) b →
-    ((values : List Value) → caret ≡ after_text (map (by_value values) b.entry.txs)) → IsTyped r text (record { batch = b; caret = caret })
-caret_is r text b caret made h = record {
-  batch = made;
-  caret = h b.editor.store ∙ ap (λ (x : Entry). after_text x.txs) made.entry ∙ filled_text made.ts r.items;
+-- what typing made, with the caret that its entry tells
+pub typed : (r new : Replica) (text : List ℕ) (cs : List EditCommand) (e : KeptEntry) (caret : ℕ) → cs ≡ typing r.selection text → IsBatch r (batch_on r cs) new e →
+    ((values : List Value) → caret ≡ after_text (map (by_value values) e.txs)) → IsMade (λ ts. (batch_on r (typing r.selection text) ≡ Ok ts) × (caret ≡ after_text ts)) r new e
+typed r new text cs e caret same made h = record {
+  ts = made.ts;
+  asked = (ap (batch_on r) (sym same) ∙ made.asked, h new.store ∙ ap (λ (x : Entry). after_text x.txs) made.entry ∙ filled_text made.ts r.items);
+  may = made.may;
+  page = made.page;
+  entry = made.entry;
+  cites = made.cites;
 }

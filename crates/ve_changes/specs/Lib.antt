@@ -10,6 +10,7 @@ pub use Rattle.model_world.specs.Refusals
 pub use Rattle.model_world_law.specs.Fit
 pub use Rattle.ve_editor.specs.Edited
 pub use Rattle.ve_editor.specs.Page
+pub use Rattle.ve_editor.specs.Trials
 pub use Rattle.ve_offsets.specs.Docs
 pub use Rattle.ve_store.specs.Following
 pub use Rattle.ve_tree.specs.TreeOf

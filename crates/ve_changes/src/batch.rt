@@ -1,12 +1,12 @@
 // Changes performed one after the other.
-ghost use Rattle.std.specs.Prelude.{◌≡◌, ◌≢◌, ◌≤◌, ◌+◌, true, length, IfOk, IfErr, OnOk};
+ghost use Rattle.std.specs.Prelude.{◌≡◌, ◌≢◌, ◌≤◌, ◌+◌, length, Ok, IfOk, IfErr, OnOk};
 ghost use Rattle.model_site_law.specs.Sound.{Sound};
 ghost use Rattle.model_world.specs.Edits.{batch_on, change_on};
 ghost use Rattle.model_change.specs.Cost.{cost_of_transactions};
-ghost use Rattle.model_world.specs.Cost.{cost_of_made, made_in_turn, made_of};
+ghost use Rattle.model_world.specs.Cost.{made_in_turn, made_of};
 ghost use Rattle.model_world_law.specs.Fit.{AllWritten, IsWritten};
 ghost use Rattle.ve_changes.specs.Stops.{IsRefused};
-ghost use Rattle.ve_changes.specs.Batches.{IsBatch, IsBatchRefused, IsMade, IsPerformed, no_entry};
+ghost use Rattle.ve_changes.specs.Batches.{IsBatch, IsBatchRefused, IsPerformed, no_entry};
 ghost use Rattle.ve_editor.specs.Page.{replica_of};
 
 use crate::batch_stop::stop_at;
@@ -17,42 +17,36 @@ use model_world_law::layers_fit;
 use std::alloc::Global;
 use std::sync::ledger::Ledger;
 use ve_base::Steps;
-use ve_editor::Editor;
+use ve_editor::{Attempt, Trial};
 use ve_tx::{Entry, TxList};
-
-/// A copy of an editor on which changes were performed, and the entry that they are together.
-#[derive(Drop)]
-pub struct Batch {
-    pub editor: Editor,
-    pub entry: Entry,
-}
 
 /// Performs one change, and gives its transaction as an entry. An `Err` changes nothing.
 fn perform_one<L: Ledger>(
     alloc: Global,
-    editor: &mut Editor,
+    trial: &mut Trial,
     change: &EditCommand,
     steps: &mut Steps<L>,
 ) -> Result<Entry, ChangeStop>
-    requires sound { Sound editor.old.items }
+    requires sound { Sound trial.old.page.items }
     requires written { IsWritten change.now }
     ensures ok { IfOk result (
-        IsPerformed (replica_of editor.old) (change_on (replica_of editor.old) change.now)
-        (replica_of editor.new)) }
+        IsPerformed (replica_of trial.old.page) (change_on (replica_of trial.old.page) change.now)
+        (replica_of trial.new.page)) }
     ensures refused { IfErr result (λ why.
-        IsRefused why (change_on (replica_of editor.old) change.now)) }
+        IsRefused why (change_on (replica_of trial.old.page) change.now)) }
+    ensures first { trial.new.first ≡ trial.old.first }
     ensures counted { steps.old ≤ steps.new }
     ensures steps { IfErr result (λ stop. stop ≢ ChangeStop.Memory)
         → steps.new
         ≤ steps.old
-        + cost_of_transactions (made_of (change_on (replica_of editor.old) change.now))
-        editor.old.items }
+        + cost_of_transactions (made_of (change_on (replica_of trial.old.page) change.now))
+        trial.old.page.items }
 {
     // a change that was read and isn't refused may be performed
     layers_fit();
     events_keep();
-    let draft = change_draft(alloc, editor.doc(), change)?;
-    match editor.perform(&draft, steps) {
+    let draft = change_draft(alloc, trial.doc(), change)?;
+    match trial.perform(&draft, steps) {
         Ok(entry) => Ok(entry),
         Err(fault) => Err(ChangeStop::from(fault)),
     }
@@ -62,26 +56,29 @@ fn perform_one<L: Ledger>(
 /// `Err` may leave some of them performed.
 fn perform_each<L: Ledger>(
     alloc: Global,
-    editor: &mut Editor,
+    trial: &mut Trial,
     entry: &mut Entry,
     changes: &[EditCommand],
     steps: &mut Steps<L>,
 ) -> Result<(), BatchStop>
-    requires sound { Sound editor.old.items }
+    requires sound { Sound trial.old.page.items }
     requires written { AllWritten changes.now }
-    requires nothing { entry.old ≡ no_entry (length editor.old.store) }
+    requires nothing { entry.old ≡ no_entry (length trial.old.page.store) }
     ensures ok { OnOk result (
-        IsMade (replica_of editor.old) (batch_on (replica_of editor.old) changes.now)
-        (replica_of editor.new) entry.new) }
-    ensures refused { IfErr result (IsBatchRefused (batch_on (replica_of editor.old) changes.now)) }
+        IsBatch (replica_of trial.old.page) (batch_on (replica_of trial.old.page) changes.now)
+        (replica_of trial.new.page) entry.new) }
+    ensures refused { IfErr result (
+        IsBatchRefused (batch_on (replica_of trial.old.page) changes.now)) }
+    ensures first { trial.new.first ≡ trial.old.first }
     ensures counted { steps.old ≤ steps.new }
     ensures steps { IfErr result (λ stop. stop ≢ BatchStop.Memory)
         → steps.new
         ≤ steps.old
-        + cost_of_transactions (made_in_turn (replica_of editor.old) changes.now) editor.old.items }
+        + cost_of_transactions (made_in_turn (replica_of trial.old.page) changes.now)
+        trial.old.page.items }
 {
     for at in 0..changes.len() {
-        match perform_one(alloc, editor, &changes[at], steps) {
+        match perform_one(alloc, trial, &changes[at], steps) {
             Ok(later) => entry.append(later)?,
             Err(stop) => return Err(stop_at(at, stop)),
         }
@@ -89,11 +86,11 @@ fn perform_each<L: Ledger>(
     Ok(())
 }
 
-/// The entry of no changes, on an editor's page.
-fn nothing_yet(alloc: Global, editor: &Editor) -> Entry
-    ensures { result ≡ no_entry (length editor.now.store) }
+/// The entry of no changes, on the page of a trial.
+fn nothing_yet(alloc: Global, trial: &Trial) -> Entry
+    ensures { result ≡ no_entry (length trial.now.page.store) }
 {
-    let count = editor.doc().store.len();
+    let count = trial.doc().store.len();
     Entry {
         txs: TxList::new(alloc),
         store_before: count,
@@ -101,54 +98,86 @@ fn nothing_yet(alloc: Global, editor: &Editor) -> Entry
     }
 }
 
-/// Performs changes on an editor that is given away with them.
-fn perform_on<L: Ledger>(
+/// Performs changes on the page of a trial, each on the result of those before it, and gives their
+/// transactions as one entry. With no changes the page stays as it is, and the entry has no
+/// transaction.
+///
+/// It is refused where one of them is, at the first such position: as that change is refused on the
+/// result of those before it. Those before it stay made then.
+pub fn perform_all<L: Ledger>(
     alloc: Global,
-    mut editor: Editor,
+    trial: &mut Trial,
     changes: &[EditCommand],
     steps: &mut Steps<L>,
-) -> Result<Batch, BatchStop>
-    requires sound { Sound editor.items }
+) -> Result<Entry, BatchStop>
+    requires sound { Sound trial.old.page.items }
     requires written { AllWritten changes.now }
     ensures ok { IfOk result (
-        IsBatch (replica_of editor) (batch_on (replica_of editor) changes.now)) }
-    ensures refused { IfErr result (IsBatchRefused (batch_on (replica_of editor) changes.now)) }
+        IsBatch (replica_of trial.old.page) (batch_on (replica_of trial.old.page) changes.now)
+        (replica_of trial.new.page)) }
+    ensures refused { IfErr result (
+        IsBatchRefused (batch_on (replica_of trial.old.page) changes.now)) }
+    ensures first { trial.new.first ≡ trial.old.first }
     ensures counted { steps.old ≤ steps.new }
     ensures steps { IfErr result (λ stop. stop ≢ BatchStop.Memory)
         → steps.new
         ≤ steps.old
-        + cost_of_transactions (made_in_turn (replica_of editor) changes.now) editor.items }
+        + cost_of_transactions (made_in_turn (replica_of trial.old.page) changes.now)
+        trial.old.page.items }
 {
-    let mut entry = nothing_yet(alloc, &editor);
-    match perform_each(alloc, &mut editor, &mut entry, changes, steps) {
-        Ok(()) => Ok(Batch { editor, entry }),
+    let mut entry = nothing_yet(alloc, trial);
+    match perform_each(alloc, trial, &mut entry, changes, steps) {
+        Ok(()) => Ok(entry),
         Err(stop) => Err(stop),
     }
 }
 
-/// Performs changes on a copy of an editor, each on the result of those before it. The editor
-/// itself stays as it is. With no changes the copy is as the editor, and the entry has no
-/// transaction.
-///
-/// It is refused where one of them is, at the first such position: as that change is refused on the
-/// result of those before it.
-pub fn perform_all<L: Ledger>(
+/// Changes that are made in turn, all of them or none. It is refused where one of them is, at the
+/// first such position: as that change is refused on the result of those before it.
+#[derive(Clone, Copy)]
+pub struct Batch<'a> {
     alloc: Global,
-    editor: &Editor,
-    changes: &[EditCommand],
-    steps: &mut Steps<L>,
-) -> Result<Batch, BatchStop>
-    requires sound { Sound editor.now.items }
-    requires written { AllWritten changes.now }
-    ensures ok { IfOk result (
-        IsBatch (replica_of editor.now) (batch_on (replica_of editor.now) changes.now)) }
-    ensures refused { IfErr result (IsBatchRefused (batch_on (replica_of editor.now) changes.now)) }
-    ensures counted { steps.old ≤ steps.new }
-    ensures steps { IfErr result (λ stop. stop ≢ BatchStop.Memory)
-        → steps.new
-        ≤ steps.old
-        + cost_of_made true (made_in_turn (replica_of editor.now) changes.now) editor.now.items }
-{
-    let copy = editor.copy(steps)?;
-    perform_on(alloc, copy, changes, steps)
+    changes: &'a [EditCommand],
+}
+
+impl<'a> Batch<'a> {
+    /// A batch of these changes.
+    pub fn new(alloc: Global, changes: &'a [EditCommand]) -> Batch<'a>
+        ensures { result.changes.now ≡ changes.now }
+    {
+        Batch { alloc, changes }
+    }
+}
+
+impl Attempt for Batch<'_> {
+    ghost use Rattle.ve_changes.specs.declared.batch_stop.BatchStop.{BatchStop};
+
+    type Told = ();
+
+    type Stop = BatchStop;
+
+    ghost can_run = { λ b r. Sound r.items × AllWritten b.changes.now };
+
+    ghost makes = { λ b r ts _. batch_on r b.changes.now ≡ Ok ts };
+
+    ghost stops = { λ b r. IsBatchRefused (batch_on r b.changes.now) };
+
+    ghost is_refusal = { λ stop. stop ≢ BatchStop.Memory };
+
+    ghost cost = { λ b r. cost_of_transactions (made_in_turn r b.changes.now) r.items };
+
+    fn run<L: Ledger>(
+        &self,
+        trial: &mut Trial,
+        steps: &mut Steps<L>,
+    ) -> Result<(Entry, ()), BatchStop> {
+        match perform_all(self.alloc, trial, self.changes, steps) {
+            Ok(entry) => Ok((entry, ())),
+            Err(stop) => Err(stop),
+        }
+    }
+
+    fn no_memory(&self) -> BatchStop {
+        BatchStop::Memory
+    }
 }

@@ -13,19 +13,19 @@
 //!   is performed.
 //! - `may_select`, `next_place` and `erased_range` say what may be selected, where a caret goes and
 //!   which range is erased (`Carets`). They read the page alone.
-//! - `perform_all` performs changes on a copy of an editor, each on the result of those before it,
-//!   as one entry: the model's `batch_on`. Where one is refused nothing is changed, and its number
-//!   is told (`Batches`).
-//! - `type_text` performs typing, and tells where the caret stands after the text; `after_inserted`
-//!   tells that of one transaction (`TypedCarets`).
+//! - `Batch` is an attempt at changes in turn, each on the result of those before it, as one entry:
+//!   the model's `batch_on`. Where one is refused its number is told (`Batches`), and whoever makes
+//!   the attempt takes back those before it.
+//! - `Typing` is an attempt at typing, and tells where the caret stands after the text;
+//!   `after_inserted` tells that of one transaction (`TypedCarets`).
 //!
 //! The meaning of a change stands in model_world's `Edits`, the next position of a caret in its
 //! `Answers`. Laws: a move is answered by performing the transaction that `Moves` defines
 //! (`moves_are_asked`), and so carets (`carets_are_asked`). That a batch is whole or nothing is a
 //! law of model_world.
 //!
-//! A text typed at a caret is one change in place. Over a selection it is two, made on a copy of
-//! the page, as every batch is: both are one entry or none.
+//! A text typed at a caret is one change. Over a selection it is two, and an attempt, as every
+//! batch is: both are one entry or none.
 #![tactic(auto)]
 
 mod applied;
@@ -43,7 +43,7 @@ mod moves;
 mod pasted;
 mod typed;
 
-pub use batch::{Batch, perform_all};
+pub use batch::Batch;
 pub use batch_stop::BatchStop;
 pub use caret::after_inserted;
 pub use carets::{carets_are_asked, erased_range, may_select, next_place};
@@ -52,4 +52,4 @@ pub use faults::ChangeStop;
 pub use laws::moves_are_asked;
 pub use model_world::{EditCommand, Refusal, Request};
 pub use moves::{is_move, move_draft};
-pub use typed::{Typed, type_text};
+pub use typed::Typing;

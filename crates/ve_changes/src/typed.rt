@@ -1,33 +1,47 @@
 // A text typed.
-ghost use Rattle.std.specs.Prelude.{◌≡◌, ◌≢◌, ◌≤◌, ◌+◌, true, IfOk, IfErr};
-ghost use Rattle.model_site.specs.Replica.{Replica};
+ghost use Rattle.std.specs.Prelude.{◌≡◌, ◌≢◌, Ok, IfOk};
+ghost use Rattle.model_change.specs.Cost.{cost_of_transactions};
 ghost use Rattle.model_site_law.specs.Sound.{Sound};
 ghost use Rattle.model_world.specs.Answers as model;
+ghost use Rattle.model_world.specs.Cost.{made_in_turn};
 ghost use Rattle.model_world.specs.Edits.{batch_on};
-ghost use Rattle.model_world.specs.Cost.{cost_of_made, made_in_turn};
-ghost use Rattle.ve_changes.specs.Batches.{IsBatch, IsBatchRefused, IsTyped};
-ghost use Rattle.ve_editor.specs.Page.{replica_of};
+ghost use Rattle.ve_changes.specs.Batches.{IsBatchRefused};
 
 use crate::BatchStop;
-use crate::batch::{Batch, perform_all};
+use crate::batch::perform_all;
 use crate::caret::after_text;
 use model_edit::Selection;
 use model_world::{EditCommand, EditCommandList, TextMarks};
 use std::alloc::Global;
 use std::sync::ledger::Ledger;
 use ve_base::{Memory, Steps, Text, TryCopy};
-use ve_editor::Editor;
+use ve_editor::{Attempt, Trial};
+use ve_tx::Entry;
 
-/// A text typed: the selection is removed, where there is one, and the text stands at its lower end
-/// with the marks to the left. The caret is to stand just after the text.
-#[derive(Drop)]
-pub struct Typed {
-    pub batch: Batch,
-    pub caret: usize,
+/// A text that is typed: the selection is removed, where there is one, and the text stands at its
+/// lower end with the marks to the left. What is told is where the caret is to stand: just after
+/// the text. The selection isn't set. It is refused as a batch of these changes is.
+#[derive(Clone, Copy)]
+pub struct Typing<'a> {
+    alloc: Global,
+    text: &'a Text,
+}
+
+impl<'a> Typing<'a> {
+    /// This text, typed.
+    pub fn new(alloc: Global, text: &'a Text) -> Typing<'a>
+        ensures { result.text.now ≡ text.now }
+    {
+        Typing { alloc, text }
+    }
 }
 
 /// The changes that typing a text is.
-fn typing(alloc: Global, selection: Selection, text: &Text) -> Result<EditCommandList, Memory>
+fn typing_changes(
+    alloc: Global,
+    selection: Selection,
+    text: &Text,
+) -> Result<EditCommandList, Memory>
     ensures { IfOk result (λ changes. changes ≡ model.typing selection text.now) }
 {
     let from = selection.anchor.min(selection.focus);
@@ -45,46 +59,38 @@ fn typing(alloc: Global, selection: Selection, text: &Text) -> Result<EditComman
     Ok(changes)
 }
 
-/// A batch of typing, with the caret after the text.
-fn with_caret(batch: Batch) -> Result<Typed, Memory>
-    ensures { IfOk result (λ typed.
-        (r : Replica) (text : _)
-        → IsBatch r (batch_on r (model.typing r.selection text)) batch
-        → IsTyped r text typed) }
-{
-    match after_text(&batch.entry) {
-        Ok(caret) => Ok(Typed { batch, caret }),
-        Err(Memory) => Err(Memory),
-    }
-}
+impl Attempt for Typing<'_> {
+    ghost use Rattle.ve_changes.specs.declared.batch_stop.BatchStop.{BatchStop};
 
-/// Types a text on a copy of an editor: the selection is removed, and the text stands at the lower
-/// end of it. The editor itself stays as it is, and so does the selection: the caret is told
-/// beside.
-///
-/// It is refused as `perform_all` refuses the changes that typing is.
-pub fn type_text<L: Ledger>(
-    alloc: Global,
-    editor: &Editor,
-    text: &Text,
-    steps: &mut Steps<L>,
-) -> Result<Typed, BatchStop>
-    requires sound { Sound editor.now.items }
-    ensures ok { IfOk result (IsTyped (replica_of editor.now) text.now) }
-    ensures refused { IfErr result (
-        IsBatchRefused (
-        batch_on (replica_of editor.now) (model.typing editor.now.selection text.now))) }
-    ensures counted { steps.old ≤ steps.new }
-    ensures steps { IfErr result (λ stop. stop ≢ BatchStop.Memory)
-        → steps.new
-        ≤ steps.old
-        + cost_of_made true (
-        made_in_turn (replica_of editor.now) (model.typing editor.now.selection text.now))
-        editor.now.items }
-{
-    let changes = typing(alloc, editor.selection(), text)?;
-    match perform_all(alloc, editor, changes.as_slice(), steps) {
-        Ok(batch) => Ok(with_caret(batch)?),
-        Err(stop) => Err(stop),
+    type Told = usize;
+
+    type Stop = BatchStop;
+
+    ghost can_run = { λ t r. Sound r.items };
+
+    ghost makes = { λ t r ts caret.
+        (batch_on r (model.typing r.selection t.text.now) ≡ Ok ts)
+        × (caret ≡ model.after_text ts) };
+
+    ghost stops = { λ t r. IsBatchRefused (batch_on r (model.typing r.selection t.text.now)) };
+
+    ghost is_refusal = { λ stop. stop ≢ BatchStop.Memory };
+
+    ghost cost = { λ t r.
+        cost_of_transactions (made_in_turn r (model.typing r.selection t.text.now)) r.items };
+
+    fn run<L: Ledger>(
+        &self,
+        trial: &mut Trial,
+        steps: &mut Steps<L>,
+    ) -> Result<(Entry, usize), BatchStop> {
+        let changes = typing_changes(self.alloc, trial.selection(), self.text)?;
+        let entry = perform_all(self.alloc, trial, changes.as_slice(), steps)?;
+        let caret = after_text(&entry)?;
+        Ok((entry, caret))
+    }
+
+    fn no_memory(&self) -> BatchStop {
+        BatchStop::Memory
     }
 }

@@ -10,5 +10,11 @@ pub mod RemovedLemmas
 pub mod OtherLemmas
 pub mod AdmitLemmas
 pub mod StayLemmas
+pub mod TrialLemmas
+pub mod ReturnLemmas
+pub mod NoteLemmas
+pub mod AllowedLemmas
+pub mod GoBackLemmas
+pub mod BackExamples
 mod CountedLemmas
 pub mod CountedExamples

@@ -64,12 +64,12 @@ committed_tree t old new list linked change committed will made =
 -- ---- several transactions
 
 -- the list that they make, one after the other
-abbrev pub made_of : List Transaction → List PlainItem → List PlainItem
-made_of [] items = items
-made_of (t ∷ ts) items = made_of ts (edited t items)
+abbrev pub list_after : List Transaction → List PlainItem → List PlainItem
+list_after [] items = items
+list_after (t ∷ ts) items = list_after ts (edited t items)
 
 -- some of them, and then the others
-pub stay_over : (ts us : List Transaction) (items : List PlainItem) (old now new : Nodes) → NumbersStayOver ts items old now → NumbersStayOver us (made_of ts items) now new →
+pub stay_over : (ts us : List Transaction) (items : List PlainItem) (old now new : Nodes) → NumbersStayOver ts items old now → NumbersStayOver us (list_after ts items) now new →
     NumbersStayOver (ts ++ us) items old new
 stay_over [] us items old now new same later = subst (λ n. NumbersStayOver us items n new) same later
 stay_over (t ∷ ts) us items old now new first later = record {
@@ -79,13 +79,13 @@ stay_over (t ∷ ts) us items old now new first later = record {
   later = stay_over ts us (edited t items) first.next now new first.later later;
 }
 
-made-append : (ts : List Transaction) (t : Transaction) (items : List PlainItem) → made_of (ts ++ t ∷ []) items ≡ edited t (made_of ts items)
+made-append : (ts : List Transaction) (t : Transaction) (items : List PlainItem) → list_after (ts ++ t ∷ []) items ≡ edited t (list_after ts items)
 made-append [] t items = refl
 made-append (u ∷ ts) t items = made-append ts t (edited u items)
 
 -- After some of them: the list is the one that they make, and numbers stay over each.
 pub record StaySoFar (ts : List Transaction) (old now : LinkedPage) : Type 0 where
-  pub items : now.items ≡ made_of ts old.items
+  pub items : now.items ≡ list_after ts old.items
   pub numbers : NumbersStayOver ts old.items old.nodes now.nodes
 
 pub stay_first : (page : LinkedPage) → StaySoFar [] page page

@@ -4,6 +4,7 @@ pub use Rattle.model_items.specs.Law
 pub use Rattle.model_change.specs.Replay
 pub use Rattle.model_site.specs.Replica
 pub use Rattle.model_site.specs.Refused
+pub use Rattle.model_site_law.specs.Sound
 pub use Rattle.model_site.specs.Entries
 pub use Rattle.ve_tx.specs.Operation
 pub use Rattle.ve_tx.specs.Cites
@@ -11,6 +12,8 @@ pub use Rattle.ve_tx.specs.ByValue
 pub use Rattle.ve_tree.specs.TreeOf
 pub mod Page
 pub mod Stays
+pub mod Back
+pub mod Trials
 pub mod Edited
 pub mod Counted
 pub mod Refusal

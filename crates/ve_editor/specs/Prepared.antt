@@ -6,14 +6,16 @@ use Rattle.model_change.specs.Fault.{Applies}
 use Rattle.model_change.specs.Inverse.{filled}
 use Rattle.model_change.specs.Store.{brought, changed_heads, fill}
 use Rattle.model_change.specs.Transaction.{Transaction, edited}
+use Rattle.model_items.specs.declared.item.Item.{Item}
 use Rattle.ve_items.specs.ItemList.{ItemList}
+use Rattle.ve_repair.specs.Change.{LawfulAfter}
 use Rattle.ve_tree.specs.IsTree.{unvalued}
 use Rattle.ve_tree.specs.TreeOf.{IsTreeOf}
 use Rattle.ve_tree.specs.declared.tree.Tree.{Tree}
 use Rattle.ve_tx.specs.Applied.{plain_after}
 use Rattle.ve_tx.specs.Cites.{TxCites}
 use Rattle.ve_tx.specs.Operation.{by_value}
-use Rattle.ve_tx.specs.Spliced.{LieBetween, come_count, spliced_by}
+use Rattle.ve_tx.specs.Spliced.{AllCite, LieBetween, come_count, spliced_by}
 use Rattle.ve_tx.specs.declared.change.Change.{Change}
 use Rattle.ve_tx.specs.declared.draft.Draft.{Draft}
 use Rattle.ve_editor.specs.declared.perform.Admitting.{Admitting}
@@ -33,6 +35,21 @@ pub record WillBe (t : Transaction) (old new : List Value) (list : ItemList) (li
   pub cites : All (CitesWell new) (spliced_by list.items change.splices.items)
   pub fits : FitsInto list change
   pub tree : IsTreeOf linked (unvalued (spliced_by list.items change.splices.items))
+
+-- The draft applies, and its new list is allowed. Over the new values it means what it does over the
+-- old ones, and this is its change.
+pub record IsAllowed (d : Draft) (old new : List Value) (items : List Item) (change : Change) : Type 0 where
+  pub applies : Applies (drafted old d) (plain_list old items)
+  pub made : plain_after new items change.splices.items ≡ edited (drafted old d) (plain_list old items)
+  pub allowed : list_cause (spliced_by items change.splices.items) (length new) ≡ None
+  pub lawful : LawfulAfter d.tx items
+  pub within : LieBetween 0 (length items) change.splices.items
+  pub come : AllCite new change.splices.items
+  pub store : new ≡ fill old (brought (drafted old d) (plain_list old items))
+  pub tx : by_value new d.tx ≡ drafted old d
+  pub tx_cites : TxCites new d.tx
+  pub list : plain_list new items ≡ plain_list old items
+  pub list_cites : All (CitesWell new) items
 
 -- the draft applies, its new list is allowed, and its change is ready, as is its entry
 pub record MayPerform (d : Draft) (old new : List Value) (list : ItemList) (linked : Tree) (performing : Performing) : Type 0 where

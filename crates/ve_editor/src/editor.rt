@@ -23,7 +23,8 @@ use std::alloc::Global;
 use std::marker::Model;
 use std::sync::ledger::Ledger;
 use ve_base::{Memory, Steps, TryCopy, Value};
-use ve_items::Linear;
+use ve_items::{Item, Linear};
+use ve_kinds::Kind;
 use ve_offsets::Doc;
 use ve_store::Store;
 use ve_tree::Tree;
@@ -34,12 +35,28 @@ use ve_tx::{Draft, Entry, Parcel, Transaction, TxList};
 /// and the tree's nodes by their numbers.
 #[derive(Drop)]
 pub struct Editor {
-    list: Linear,
+    pub(crate) list: Linear,
     pub(crate) store: Store,
-    tree: Tree,
-    selection: Selection,
+    pub(crate) tree: Tree,
+    pub(crate) selection: Selection,
     pub(crate) alloc: Global,
 }
+
+/// The items of a page without text: the internal list, which is empty.
+const NO_TEXT: [Item; 2] = [
+    Item::Opening {
+        kind: Kind::InternalList,
+        generated: false,
+        head: None,
+        marks: None,
+        pre: None,
+        origin: None,
+    },
+    Item::Closing {
+        kind: Kind::InternalList,
+        pre: None,
+    },
+];
 
 impl Model for Editor {
     ghost use Rattle.ve_editor.specs.Page.{IsPage, LinkedPage, linked_page, nodes_of_tree, page_of};
@@ -106,6 +123,17 @@ impl Editor {
             selection: self.selection,
             alloc: self.alloc,
         })
+    }
+
+    /// An editor of a page without text: what stands in an editor's place while that one is moved
+    /// out.
+    pub(crate) fn blank<L: Ledger>(alloc: Global, steps: &mut Steps<L>) -> Result<Editor, Memory>
+        ensures counted { steps.old ≤ steps.new }
+        ensures steps { steps.new ≤ steps.old + 24 }
+    {
+        let mut list = Linear::new(alloc);
+        list.extend(&NO_TEXT)?;
+        Editor::new(alloc, list, Store::new(alloc), steps)
     }
 
     /// Lends list, tree and store, to be read.

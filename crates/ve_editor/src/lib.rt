@@ -21,11 +21,18 @@
 //! `numbers` of `perform`, `admit` and `revert` says, and of the two in place (`NumbersStay`). After
 //! a refusal each number has the node that it had (`IsUnchanged`).
 //!
+//! Changes that are to be made all or none are an `Attempt`: `Editor::attempt` makes them in place,
+//! on a `Trial` of the page, and takes them back where one of them stops. A trial copies the tree's
+//! nodes alone. Of the list it notes what each change takes out, and has it keep room for that; the
+//! store only grows meanwhile, and is cut. So going back takes no memory.
+//!
 //! Definitions, in reading order: `Page` (the invariant of the type and its view), `Stays` (which
 //! nodes keep their numbers), `Edited` (drafts and entries by value; what may be performed or taken
 //! back), `Counted` (how many steps a call counts at most), `Refusal` (how a refusal names its
-//! cause). `Prepared` serves private functions: a change whose tree is there and whose list needs no
-//! more memory. There is no law of its own: those of model_site_law hold by the clauses.
+//! cause), `Trials` (the view of a trial, and what an attempt makes). Two serve private functions:
+//! `Prepared` (a change that is allowed, and one whose tree is there and whose list needs no more
+//! memory) and `Back` (the splices that take a list back). There is no law of its own: those of
+//! model_site_law hold by the clauses.
 //!
 //! A draft's values go into the store before it is known that the draft applies, since its removed
 //! items are compared over the store. A refusal cuts them off again.
@@ -39,15 +46,22 @@
 //! `revert_in_place` on the copy, which count no more copies.
 #![tactic(auto)]
 
+mod attempt;
+mod back;
+mod checked;
 mod editor;
 mod faults;
 mod in_place;
+mod noted;
 mod perform;
 mod prepare;
 mod selected;
+mod trial;
 mod values;
 mod verdict;
 
+pub use attempt::Attempt;
 pub use editor::Editor;
 pub use model_edit::Selection;
 pub use model_site::EditFault;
+pub use trial::Trial;

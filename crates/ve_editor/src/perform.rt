@@ -24,16 +24,13 @@ ghost use Rattle.ve_editor.specs.Prepared.{IsReadyBack, IsReadyOther, MayPerform
 ghost use Rattle.ve_editor.specs.Refusal.{IsEditRefusal};
 ghost use Rattle.ve_editor.specs.Stays.{NumbersStay};
 
-use crate::faults::of_transaction;
+use crate::checked::checked;
 use crate::prepare::prepare;
-use crate::values::take_in;
-use crate::verdict::may_become;
 use model_site::EditFault;
 use std::alloc::Global;
 use std::sync::ledger::Ledger;
 use ve_base::{Memory, Steps, Value};
 use ve_items::Linear;
-use ve_offsets::Doc;
 use ve_store::Store;
 use ve_tree::Tree;
 use ve_tx::{Change, Draft, Entry, Transaction, TxList};
@@ -99,7 +96,7 @@ fn entry_of(
 
 /// The entry of a transaction and its change. Then the tree is that of the list after the change,
 /// and nodes that stay keep their numbers; at an `Err` it is the tree of the list still.
-fn with_entry<L: Ledger>(
+pub fn with_entry<L: Ledger>(
     alloc: Global,
     list: &Linear,
     store: &Store,
@@ -167,23 +164,7 @@ pub fn ready<L: Ledger>(
     ensures unstepped { IfErr result (λ why. why ≢ EditFault.Memory → steps.new ≡ steps.old) }
 {
     let before = store.len();
-    match take_in(alloc, store, &draft.values) {
-        Ok(()) => {}
-        Err(Memory) => return Err(EditFault::Memory),
-    }
-    let change = match draft.tx.change(alloc, list, store) {
-        Ok(change) => change,
-        Err(fault) => return Err(of_transaction(fault)),
-    };
-    may_become(
-        Doc {
-            list: &*list,
-            tree: &*tree,
-            store: &*store,
-        },
-        &draft.tx,
-        &change,
-    )?;
+    let change = checked(alloc, list, store, tree, draft)?;
     match with_entry(alloc, list, store, tree, &draft.tx, before, change, steps) {
         Ok(ready) => Ok(ready),
         Err(Memory) => Err(EditFault::Memory),

@@ -1,12 +1,12 @@
 // A change of a page: the tree follows as the last step that may fail, and then the list, which
 // takes no more memory.
-ghost use Rattle.std.specs.Prelude.{◌≡◌, ◌≤◌, OnOk, OnErr};
+ghost use Rattle.std.specs.Prelude.{◌≡◌, ◌≤◌, ◌+◌, OnOk, OnErr};
 ghost use Rattle.ve_repair.specs.Change.{CanApply, LawfulAfter};
 ghost use Rattle.ve_repair.specs.Kept.{KeepsNumbers};
 ghost use Rattle.ve_repair.specs.Repaired.{IsTreeOfAfter, IsWithinTouch, SameNodes};
 ghost use Rattle.ve_tree.specs.IsTree.{unvalued};
 ghost use Rattle.ve_tree.specs.TreeOf.{IsTreeOf};
-ghost use Rattle.ve_tx.specs.Spliced.{spliced_by};
+ghost use Rattle.ve_tx.specs.Spliced.{come_count, spliced_by};
 ghost use Rattle.ve_editor.specs.Prepared.{FitsInto};
 
 use std::alloc::Global;
@@ -42,10 +42,12 @@ pub fn prepare<L: Ledger>(
     relink(alloc, tree, list, tx, steps)
 }
 
-/// Makes the change of the list. It takes no memory.
+/// Makes the change of the list. It takes no memory, and uses up no more of the list's room than
+/// what comes.
 pub fn commit(list: &mut Linear, change: Change)
     requires { FitsInto list.old change }
-    ensures { list.new.items ≡ spliced_by list.old.items change.splices.items }
+    ensures items { list.new.items ≡ spliced_by list.old.items change.splices.items }
+    ensures spare { list.old.spare ≤ list.new.spare + come_count change.splices.items }
 {
     change.splice_into(list);
 }

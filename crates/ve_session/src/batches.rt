@@ -11,7 +11,7 @@ use model_world::EditCommandList;
 use std::alloc::Global;
 use std::sync::ledger::Ledger;
 use ve_base::Steps;
-use ve_changes::{BatchStop, ChangeStop, perform_all};
+use ve_changes::{Batch, BatchStop, ChangeStop};
 use ve_json::Answer;
 use ve_sites::Sites;
 
@@ -36,11 +36,10 @@ pub fn batch<L: Ledger>(
         + cost_of_request session.old.session.committed (member_at session.old k) (
         request.Batch changes.now) }
 {
-    let batch = match perform_all(alloc, session.site(k).editor(), changes.as_slice(), steps) {
-        Ok(batch) => batch,
-        Err(BatchStop::Refused { at, refusal }) => return Ok(Answer::NoBatch { at, refusal }),
-        Err(BatchStop::Memory) => return Err(ChangeStop::Memory),
-    };
-    session.settle(k, batch.editor, batch.entry)?;
-    Ok(Answer::Length(len_at(session, k)))
+    let batch = Batch::new(alloc, changes.as_slice());
+    match session.attempt(k, &batch, steps) {
+        Ok(()) => Ok(Answer::Length(len_at(session, k))),
+        Err(BatchStop::Refused { at, refusal }) => Ok(Answer::NoBatch { at, refusal }),
+        Err(BatchStop::Memory) => Err(ChangeStop::Memory),
+    }
 }

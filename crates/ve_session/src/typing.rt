@@ -21,7 +21,7 @@ use model_world_law::layers_fit;
 use std::alloc::Global;
 use std::sync::ledger::Ledger;
 use ve_base::{Steps, Text, TryCopy};
-use ve_changes::{BatchStop, ChangeStop, EditCommand, after_inserted, change_draft, type_text};
+use ve_changes::{BatchStop, ChangeStop, EditCommand, Typing, after_inserted, change_draft};
 use ve_json::Answer;
 use ve_offsets::Doc;
 use ve_sites::Sites;
@@ -86,8 +86,7 @@ fn type_here<L: Ledger>(
     Ok(Answer::Length(len_at(session, k)))
 }
 
-/// Types a text over the selection of a site, on a copy of its page: two changes that are one
-/// entry.
+/// Types a text over the selection of a site: two changes that are one entry.
 fn type_over<L: Ledger>(
     alloc: Global,
     session: &mut Sites,
@@ -108,17 +107,16 @@ fn type_over<L: Ledger>(
         + cost_of_request session.old.session.committed (member_at session.old k) (
         request.TypeText text.now) }
 {
-    let typed = match type_text(alloc, session.site(k).editor(), text, steps) {
-        Ok(typed) => typed,
+    let caret = match session.attempt(k, &Typing::new(alloc, text), steps) {
+        Ok(caret) => caret,
         Err(BatchStop::Refused { refusal, .. }) => return Err(ChangeStop::Refused(refusal)),
         Err(BatchStop::Memory) => return Err(ChangeStop::Memory),
     };
-    session.settle(k, typed.batch.editor, typed.batch.entry)?;
     session.select(
         k,
         Selection {
-            anchor: typed.caret,
-            focus: typed.caret,
+            anchor: caret,
+            focus: caret,
         },
     );
     Ok(Answer::Length(len_at(session, k)))

@@ -16,6 +16,7 @@ pub use Rattle.ve_server.specs.Fed
 pub mod Ground
 pub mod Numbered
 pub mod Settled
+pub mod Attempted
 pub mod Refusal
 pub mod Taking
 pub mod Dropped

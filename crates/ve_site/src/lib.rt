@@ -1,6 +1,6 @@
 //! A site: its editor, the entries that it sent and has no answer for, those that it has not sent,
-//! and those that it undid. Each call is the model's, but for want of memory: `edit`, `settle`,
-//! `undo`, `redo`, `adopt`, `send`, `take`, `select` and `tell` make of a site what model_site
+//! and those that it undid. Each call is the model's, but for want of memory: `edit`, `attempt`,
+//! `settle`, `undo`, `redo`, `adopt`, `send`, `take`, `select` and `tell` make of a site what model_site
 //! says, or refuse it exactly where that does. `pending` gives its pending entries serialised, and
 //! `told` what changed in its list since `tell`, as patches. `ends` says how many items its pending
 //! entries leave as they were, at a list's beginning and at its end: the least that one of their
@@ -14,8 +14,9 @@
 //! keeps the invariant of one (specs/Ground.antt). So of the site these calls ask two things alone:
 //! what it takes has to run from its confirmed list (the ground), and what it adopts on its list.
 //! specs/Refusal.antt says how a refusal is told. The steps of a call are bounded by what it performs,
-//! which is `Made` of model_site; specs/Taking.antt says how many a take counts, and specs/Settled.antt
-//! defines the changed copy that a site takes. Three files serve private functions:
+//! which is `Made` of model_site; specs/Taking.antt says how many a take counts. specs/Attempted.antt
+//! says what an attempt makes of a site, and specs/Settled.antt defines the changed copy that a site
+//! takes. Three files serve private functions:
 //! specs/Dropped.antt (pending entries taken back), specs/Underway.antt (a copy while it takes
 //! entries) and specs/Patches.antt (what operations change).
 //!

@@ -16,7 +16,7 @@ use std::alloc::Global;
 use std::marker::Model;
 use std::sync::ledger::Ledger;
 use ve_base::{Memory, Steps};
-use ve_editor::Editor;
+use ve_editor::{Attempt, Editor};
 use ve_history::History;
 use ve_offsets::Doc;
 use ve_server::{Parcels, Submit};
@@ -76,6 +76,8 @@ impl Site {
     ghost use Rattle.ve_tx.specs.ByValue.{parcel_by_value, ParcelCites};
     ghost use Rattle.ve_site.specs.Numbered.{with_site};
     ghost use Rattle.ve_site.specs.Settled.{with_new_entry, Settles};
+    ghost use Rattle.ve_site.specs.Attempted.{IsAttempted};
+    ghost use Rattle.model_items.specs.Cost.{cost_of_tree};
     ghost use Rattle.ve_site.specs.Refusal.{IsUndoRefusal, IsRedoRefusal, IsSendRefusal, send_refusal};
     ghost use Rattle.model_site.specs.Refused.{edit_cause};
 
@@ -196,6 +198,39 @@ impl Site {
         let pushed = self.history.push(entry).is_ok();
         prove!(pushed);
         Ok(())
+    }
+
+    /// Makes the changes of an attempt, all of them or none, as one new entry; undone entries can't
+    /// be redone then. An `Err` changes nothing.
+    ///
+    /// The steps are those of the changes, and of one copy of the tree.
+    pub fn attempt<A: Attempt, L: Ledger>(
+        &mut self,
+        attempt: &A,
+        steps: &mut Steps<L>,
+    ) -> Result<A::Told, A::Stop>
+        requires can { A.can_run attempt.now self.old.site.replica }
+        ensures made { IfOk result (λ told.
+            IsAttempted (λ ts. A.makes attempt.now self.old.site.replica ts told) self.old.site
+            self.new.site) }
+        ensures number { self.new.number ≡ self.old.number }
+        ensures stopped { IfErr result (A.stops attempt.now self.old.site.replica) }
+        ensures kept { OnErr result (self.new ≡ self.old) }
+        ensures counted { steps.old ≤ steps.new }
+        ensures steps { IfErr result A.is_refusal
+            → steps.new
+            ≤ steps.old
+            + cost_of_tree self.old.site.replica.items
+            + A.cost attempt.now self.old.site.replica }
+    {
+        if self.history.reserve().is_err() {
+            return Err(attempt.no_memory());
+        }
+        let (entry, told) = self.editor.attempt(attempt, steps)?;
+        self.untold.note(entry.txs.as_slice());
+        let pushed = self.history.push(entry).is_ok();
+        prove!(pushed);
+        Ok(told)
     }
 
     /// Takes a changed copy of its editor in place of its own, and the entry of the changes. They

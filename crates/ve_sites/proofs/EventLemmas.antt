@@ -7,8 +7,7 @@ use Rattle.model_site.specs.Events.{at_member, with_site, with_site_of, with_sen
 use Rattle.model_site.specs.Refused.{edit_cause}
 use Rattle.model_site.specs.Session.{Member, Session, joining}
 use Rattle.model_site.specs.Site.{Site, edit_unless, with_entry}
-use Rattle.ve_site.proofs.SettleLemmas.{settled_is}
-use Rattle.ve_sites.specs.Laws.{EditHappens, RedoHappens, RevokeHappens, SelectHappens, SendHappens, ServeHappens, SettlingHappens, TakeHappens, TellHappens, UndoHappens}
+use Rattle.ve_sites.specs.Laws.{AttemptHappens, EditHappens, RedoHappens, RevokeHappens, SelectHappens, SendHappens, ServeHappens, TakeHappens, TellHappens, UndoHappens}
 use Rattle.ve_sites.specs.Shared.{Shared, member_at, site_at, sites}
 
 -- there is a site at k, so what is said of it holds
@@ -24,8 +23,8 @@ pub edit_happens : EditHappens
 edit_happens s k t site among h =
     at_the_site s k _ among ∙ ap (λ v. with_site k (member_at s k) v s.session) (edit_performs (edit_cause t (site_at s k).replica) t (site_at s k) site h)
 
-pub settling_happens : SettlingHappens
-settling_happens s k new e among by = at_the_site s k _ among ∙ ap (λ v. with_site k (member_at s k) v s.session) (sym (settled_is new e (site_at s k) by))
+pub attempt_happens : AttemptHappens
+attempt_happens s k ts site among is = at_the_site s k _ among ∙ ap (λ v. with_site k (member_at s k) v s.session) (sym is)
 
 pub select_happens : SelectHappens
 select_happens s k selection among = at_the_site s k _ among

@@ -10,6 +10,7 @@ use Rattle.model_site.specs.Site.{Site, edit, redo, revoke_entry, send, undo, wi
 use Rattle.model_site_law.specs.Sound.{AllMayRun}
 use Rattle.ve_server.specs.Serving.{Serving}
 use Rattle.ve_sites.specs.IsShared.{IsShared}
+use Rattle.ve_site.specs.Attempted.{IsAttempted}
 use Rattle.ve_sites.specs.Senders.{HasGone, Sender, at_site, member_of, shared_of}
 use Rattle.ve_sites.specs.Shared.{Shared, member_at, site_at, sites, with_member_at, with_site_at}
 use Rattle.ve_sites.specs.Turns.{HasSent}
@@ -21,6 +22,10 @@ use Rattle.ve_sites.proofs.StayLemmas.{edit_entry, edit_may, member_is, member_p
 pub on_ok : {A E : Type 0} (r : Result A E) (P Q : Type 0) → (P → Q) → OnOk r P → OnOk r Q
 on_ok (Ok x) P Q f h = f h
 on_ok (Err e) P Q f h = tt
+
+pub if_so : {A E : Type 0} (r : Result A E) (Q : Type 0) → Q → OnOk r Q
+if_so (Ok x) Q h = h
+if_so (Err e) Q h = tt
 
 pub on_err : {A E : Type 0} (r : Result A E) (P Q : Type 0) → (P → Q) → OnErr r P → OnErr r Q
 on_err (Ok x) P Q f h = tt
@@ -107,6 +112,9 @@ module _ {now : Shared} {values : List Value} {first : List Item} {server : Serv
 
   pub settled_stays : (t : Sender) (ts : List Transaction) → AllMayRun ts m.site.replica.items → t ≡ at_site (with_entry ts m.site) m → Stays t
   settled_stays t ts may e = subst Stays (sym e) (performs values first server senders p.holds k m below p.is ts may)
+
+  pub attempted_stays : {Asked : List Transaction → Type 0} (t : Sender) → IsAttempted Asked m.site t.site → t ≡ at_site t.site m → Stays t
+  attempted_stays t by same = settled_stays t by.ts by.may (same ∙ ap (λ x. at_site x m) by.site)
 
   pub edited_stays : (t : Sender) (u : Transaction) → is_reduced u ≡ true → InsertedApart u → edit u m.site ≡ Ok t.site → t ≡ at_site t.site m → Stays t
   edited_stays t u reduced apart done same =

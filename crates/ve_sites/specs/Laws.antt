@@ -1,26 +1,23 @@
 -- Each turn of a session is the model's event of its name.
-use Rattle.std.specs.Prelude.{◌≡◌, ◌<◌, ℕ, [], ◌∷◌, Some, Ok}
+use Rattle.std.specs.Prelude.{◌≡◌, ◌<◌, ℕ, List, [], ◌∷◌, Some, Ok}
 use Rattle.model_change.specs.Transaction.{Transaction}
 use Rattle.model_edit.specs.declared.selection.Selection.{Selection}
 use Rattle.model_site.specs.Events.{happens, Perform, Redo, Revoke, Select, Send, Serve, Take, Tell, Undo}
-use Rattle.model_site.specs.Replica.{Replica}
 use Rattle.model_site.specs.Session.{Session, serve_next, take_next}
-use Rattle.model_site.specs.Site.{Site, edit, redo, revoke_entry, undo, with_selection, with_told}
+use Rattle.model_site.specs.Site.{Site, edit, redo, revoke_entry, undo, with_entry, with_selection, with_told}
 use Rattle.model_site.specs.declared.served.Served.{Served}
 use Rattle.model_site.specs.declared.taken.Taken.{Taken}
-use Rattle.ve_site.specs.Settled.{with_new_entry, Settles}
-use Rattle.ve_tx.specs.declared.entry.Entry.{Entry}
 use Rattle.ve_sites.specs.Shared.{Shared, member_at, site_at, sites, with_site_at}
 use Rattle.ve_sites.specs.Turns.{HasSent}
 
--- a site after a transaction, and after several that were performed on a copy of its editor
+-- a site after a transaction, and after several that were made together
 abbrev pub EditHappens : Type 0
 EditHappens = (s : Shared) (k : ℕ) (t : Transaction) (site : Site) → k < sites s → edit t (site_at s k) ≡ Ok site →
     happens s.session (Perform k (t ∷ [])) ≡ (with_site_at k site s).session
 
-abbrev pub SettlingHappens : Type 0
-SettlingHappens = (s : Shared) (k : ℕ) (new : Replica) (e : Entry) → k < sites s → (by : Settles (site_at s k).replica new e) →
-    happens s.session (Perform k by.ts) ≡ (with_site_at k (with_new_entry new e (site_at s k)) s).session
+abbrev pub AttemptHappens : Type 0
+AttemptHappens = (s : Shared) (k : ℕ) (ts : List Transaction) (site : Site) → k < sites s → site ≡ with_entry ts (site_at s k) →
+    happens s.session (Perform k ts) ≡ (with_site_at k site s).session
 
 abbrev pub SelectHappens : Type 0
 SelectHappens = (s : Shared) (k : ℕ) (selection : Selection) → k < sites s →

@@ -6,15 +6,15 @@ ghost use Rattle.model_site.specs.Refused.{edit_cause};
 ghost use Rattle.model_site.specs.Site.{edit, entries_of, redo, revoke_entry, undo, with_selection, with_told};
 ghost use Rattle.model_site_law.specs.SelectionLaws.{StandsIn};
 ghost use Rattle.model_change.specs.Cost.{cost_of_transactions};
+ghost use Rattle.model_items.specs.Cost.{cost_of_tree};
 ghost use Rattle.ve_editor.specs.Counted.{steps_over};
 ghost use Rattle.ve_editor.specs.Edited.{IsDraftOf, drafted};
 ghost use Rattle.ve_editor.specs.Refusal.{IsEditRefusal};
 ghost use Rattle.ve_peer_undo.specs.Refusal.{IsRevokeRefusal};
 ghost use Rattle.model_site.specs.Made.{redoing, undoing, revoking};
 ghost use Rattle.ve_site.specs.Refusal.{IsRedoRefusal, IsUndoRefusal};
-ghost use Rattle.ve_site.specs.Settled.{with_new_entry, Settles};
+ghost use Rattle.ve_site.specs.Attempted.{IsAttempted};
 ghost use Rattle.ve_sites.specs.Shared.{site_at, sites, with_site_at};
-ghost use Rattle.ve_editor.specs.Page.{replica_of};
 
 use crate::Sites;
 use model_edit::Selection;
@@ -22,11 +22,11 @@ use model_site::{EditFault, RedoFault, UndoFault};
 use std::alloc::Global;
 use std::sync::ledger::Ledger;
 use ve_base::{Memory, Steps};
-use ve_editor::Editor;
+use ve_editor::Attempt;
 use ve_peer_undo::{RevokeFault, entries_are_taken_back, reversal};
 use ve_server::Parcels;
 use ve_site::Site;
-use ve_tx::{Draft, Entry, ParcelList};
+use ve_tx::{Draft, ParcelList};
 
 /// The entries that a site knows from one on: the committed ones that it has seen, and then its
 /// pending ones.
@@ -74,19 +74,32 @@ impl Sites {
         self.members[k].edit(draft, steps)
     }
 
-    /// Takes a changed copy of the editor of site `k`, and the entry of the changes. They are edits
-    /// that were performed one after the other and are one, as a batch is. An `Err` changes
-    /// nothing.
-    pub fn settle(&mut self, k: usize, editor: Editor, entry: Entry) -> Result<(), Memory>
+    /// Makes the changes of an attempt at site `k`, all of them or none, as one new entry. An `Err`
+    /// changes nothing.
+    ///
+    /// The steps are those of the changes, and of one copy of the tree.
+    pub fn attempt<A: Attempt, L: Ledger>(
+        &mut self,
+        k: usize,
+        attempt: &A,
+        steps: &mut Steps<L>,
+    ) -> Result<A::Told, A::Stop>
         requires site { k < sites self.old }
-        requires settles { Settles (site_at self.old k).replica (replica_of editor) entry }
-        ensures site { OnOk result (
-            self.new
-            ≡ with_site_at k (with_new_entry (replica_of editor) entry (site_at self.old k))
-            self.old) }
+        requires can { A.can_run attempt.now (site_at self.old k).replica }
+        ensures made { IfOk result (λ told.
+            IsAttempted (λ ts. A.makes attempt.now (site_at self.old k).replica ts told)
+            (site_at self.old k) (site_at self.new k)) }
+        ensures same { OnOk result (self.new ≡ with_site_at k (site_at self.new k) self.old) }
+        ensures stopped { IfErr result (A.stops attempt.now (site_at self.old k).replica) }
         ensures kept { OnErr result (self.new ≡ self.old) }
+        ensures counted { steps.old ≤ steps.new }
+        ensures steps { IfErr result A.is_refusal
+            → steps.new
+            ≤ steps.old
+            + cost_of_tree (site_at self.old k).replica.items
+            + A.cost attempt.now (site_at self.old k).replica }
     {
-        self.members[k].settle(editor, entry)
+        self.members[k].attempt(attempt, steps)
     }
 
     /// Takes back the last entry that site `k` has not sent. It is refused as `Site::undo` refuses,

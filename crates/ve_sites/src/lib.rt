@@ -5,7 +5,7 @@
 //! nothing changes. An edit, an undo, a redo, a revoke and a take have bounds on their steps.
 //!
 //! The view of `Sites` is the model's session, beside the list that it was opened with (`Shared` in
-//! specs/). `edit`, `settle`, `select`, `tell`, `undo`, `redo` and `revoke` change one site and
+//! specs/). `edit`, `attempt`, `select`, `tell`, `undo`, `redo` and `revoke` change one site and
 //! nothing else; `told` gives what `tell` marks as told. `send` puts a submission behind those that wait; `serve` is the server's turn and `take` a
 //! site's (`Turns`). Each makes of the session what the model's event of its name does: that is a
 //! law, `turns_are_events` (`Laws`). The type keeps the invariant of a session (`IsShared`), whose

@@ -13,11 +13,11 @@ ghost use Rattle.ve_editor.specs.Refusal.{IsEditRefusal};
 ghost use Rattle.ve_server.specs.Fed.{feed_of, submission_of};
 ghost use Rattle.model_site.specs.Made.{redoing, undoing};
 ghost use Rattle.ve_site.specs.Refusal.{IsRedoRefusal, IsSendRefusal, IsUndoRefusal};
-ghost use Rattle.ve_site.specs.Settled.{with_new_entry, Settles};
+ghost use Rattle.model_items.specs.Cost.{cost_of_tree};
+ghost use Rattle.ve_site.specs.Attempted.{IsAttempted};
 ghost use Rattle.ve_site.specs.Taking.{MayTake, steps_of_take};
 ghost use Rattle.ve_sites.specs.Senders.{at_site, HasGone};
 ghost use Rattle.ve_tx.specs.ByValue.{parcel_by_value, ParcelCites};
-ghost use Rattle.ve_editor.specs.Page.{replica_of};
 
 use model_edit::Selection;
 use model_site::{EditFault, RedoFault, SendFault, Taken, UndoFault};
@@ -26,10 +26,10 @@ use std::collections::VecDeque;
 use std::marker::Model;
 use std::sync::ledger::Ledger;
 use ve_base::{Memory, Steps};
-use ve_editor::Editor;
+use ve_editor::Attempt;
 use ve_server::{Feed, Submit};
 use ve_site::Site;
-use ve_tx::{Draft, Entry, Parcel};
+use ve_tx::{Draft, Parcel};
 
 /// A site, and the submissions that it sent and the server has not served, the next one first.
 #[derive(Drop)]
@@ -98,14 +98,27 @@ impl Member {
         self.site.edit(draft, steps)
     }
 
-    /// As `Site::settle`.
-    pub fn settle(&mut self, editor: Editor, entry: Entry) -> Result<(), Memory>
-        requires settles { Settles self.old.site.replica (replica_of editor) entry }
-        ensures site { OnOk result (
-            self.new ≡ at_site (with_new_entry (replica_of editor) entry self.old.site) self.old) }
+    /// As `Site::attempt`.
+    pub fn attempt<A: Attempt, L: Ledger>(
+        &mut self,
+        attempt: &A,
+        steps: &mut Steps<L>,
+    ) -> Result<A::Told, A::Stop>
+        requires can { A.can_run attempt.now self.old.site.replica }
+        ensures made { IfOk result (λ told.
+            IsAttempted (λ ts. A.makes attempt.now self.old.site.replica ts told) self.old.site
+            self.new.site) }
+        ensures same { self.new ≡ at_site self.new.site self.old }
+        ensures stopped { IfErr result (A.stops attempt.now self.old.site.replica) }
         ensures kept { OnErr result (self.new ≡ self.old) }
+        ensures counted { steps.old ≤ steps.new }
+        ensures steps { IfErr result A.is_refusal
+            → steps.new
+            ≤ steps.old
+            + cost_of_tree self.old.site.replica.items
+            + A.cost attempt.now self.old.site.replica }
     {
-        self.site.settle(editor, entry)
+        self.site.attempt(attempt, steps)
     }
 
     /// As `Site::undo`.

@@ -121,10 +121,11 @@ spliced-cites values items (splice ∷ more) a b =
     (All-drop values (splice.at + splice.removed) rest cites)
 
 -- made so far, from the last one on
-pub record AreMade (old now : List Item) (spare : ℕ) (splices : List Splice) (left : ℕ) : Type 0 where
+pub record AreMade (old now : List Item) (start spare : ℕ) (splices : List Splice) (left : ℕ) : Type 0 where
   pub within : left ≤ length splices
   pub items : now ≡ spliced_by old (drop left splices)
   pub room : come_count (take left splices) ≤ spare
+  pub spent : start ≤ spare + come_count (drop left splices)
 
 lie-behind : (from to : ℕ) (splices : List Splice) (i : ℕ) (splice : Splice) → i < length splices → splice ≡ get_or splices i splice → LieBetween from to splices →
     LieBetween (splice.at + splice.removed) to (drop (suc i) splices)
@@ -142,7 +143,7 @@ splice-at splices i splice below is =
     let next : i + 1 ≡ suc i = omega arith in
     drop_more splices i splice below ∙ ap (λ s. s ∷ drop (i + 1) splices) (sym is) ∙ ap (λ n. splice ∷ drop n splices) next
 
-module _ (old now : List Item) (spare left i : ℕ) (splices : List Splice) (splice : Splice) (made : AreMade old now spare splices left) (next : left ≡ suc i) (is : splice ≡ get_or splices i splice) where
+module _ (old now : List Item) (start spare left i : ℕ) (splices : List Splice) (splice : Splice) (made : AreMade old now start spare splices left) (next : left ≡ suc i) (is : splice ≡ get_or splices i splice) where
   -- the next one is the list's
   pub made-fits : LieBetween 0 (length old) splices → splice.at + splice.removed ≤ length now
   made-fits lie =
@@ -158,7 +159,7 @@ module _ (old now : List Item) (spare left i : ℕ) (splices : List Splice) (spl
       let all : come_count (take left splices) ≡ come_count (take i splices) + length splice.items = ap (λ n. come_count (take n splices)) next ∙ come-take splices i splice below is in
       omega (arith, made.room)
 
-  pub made-next : (new : List Item) (spare' : ℕ) → new ≡ spliced now splice.at splice.removed splice.items → spare' ≡ spare - length splice.items → AreMade old new spare' splices i
+  pub made-next : (new : List Item) (spare' : ℕ) → new ≡ spliced now splice.at splice.removed splice.items → spare' ≡ spare - length splice.items → AreMade old new start spare' splices i
   made-next new spare' e f =
       let below : i < length splices = omega (arith, made.within) in
       let all : come_count (take left splices) ≡ come_count (take i splices) + length splice.items = ap (λ n. come_count (take n splices)) next ∙ come-take splices i splice below is in
@@ -167,4 +168,7 @@ module _ (old now : List Item) (spare left i : ℕ) (splices : List Splice) (spl
         items = e ∙ ap (λ l. spliced l splice.at splice.removed splice.items) (made.items ∙ ap (λ n. spliced_by old (drop n splices)) next)
             ∙ ap (spliced_by old) (sym (splice-at splices i splice below is));
         room = omega (arith, made.room);
+        spent = let here : come_count (drop i splices) ≡ length splice.items + come_count (drop (suc i) splices) = ap come_count (splice-at splices i splice below is) in
+            let before : come_count (drop left splices) ≡ come_count (drop (suc i) splices) = ap (λ n. come_count (drop n splices)) next in
+            omega (arith, made.spent);
       }

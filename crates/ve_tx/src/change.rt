@@ -1,5 +1,5 @@
 // The change of a list, made before the list itself changes.
-ghost use Rattle.std.specs.Prelude.{◌≡◌, ◌≤◌, length, All, IfOk, OnOk, OnErr};
+ghost use Rattle.std.specs.Prelude.{◌≡◌, ◌≤◌, ◌+◌, length, All, IfOk, OnOk, OnErr};
 ghost use Rattle.model_items.specs.Plain.{CitesWell};
 ghost use Rattle.ve_tx.specs.Applied.{AppliesTo, IsOverActive, MakesEdited, store_after};
 ghost use Rattle.ve_tx.specs.Changed.{brought_count};
@@ -24,11 +24,12 @@ pub struct Change {
 
 impl Change {
     /// Makes the change of the list, from the last splice to the first, so that each position is
-    /// still the old list's. It takes no memory.
+    /// still the old list's. It takes no memory, and uses up no more of `spare` than what comes.
     pub fn splice_into(&self, list: &mut Linear)
         requires within { LieBetween 0 (length list.old.items) self.now.splices.items }
         requires room { come_count self.now.splices.items ≤ list.old.spare }
-        ensures { list.new.items ≡ spliced_by list.old.items self.now.splices.items }
+        ensures items { list.new.items ≡ spliced_by list.old.items self.now.splices.items }
+        ensures spare { list.old.spare ≤ list.new.spare + come_count self.now.splices.items }
     {
         let mut left = self.splices.len();
         while left > 0 {
@@ -66,6 +67,7 @@ pub fn prepared(
         come_count change.splices.items
         ≤ brought_count (by_value store.old (with_positions ops.now kept.now))) }
     ensures room { IfOk result (λ change. come_count change.splices.items ≤ list.new.spare) }
+    ensures spare { list.old.spare ≤ list.new.spare }
     ensures cites { IfOk result (λ change. AllCite store.new change.splices.items) }
     ensures store { OnOk result (
         store.new ≡ store_after store.old (with_positions ops.now kept.now) list.old.items) }

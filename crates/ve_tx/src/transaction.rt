@@ -260,6 +260,7 @@ impl Transaction {
         ensures thrifty { IfOk result (λ change.
             come_count change.splices.items ≤ brought_count (by_value store.old self.now)) }
         ensures room { IfOk result (λ change. come_count change.splices.items ≤ list.new.spare) }
+        ensures spare { list.old.spare ≤ list.new.spare }
         ensures cites { IfOk result (λ change. AllCite store.new change.splices.items) }
         ensures store { OnOk result (store.new ≡ store_after store.old self.now list.old.items) }
         ensures items { list.new.items ≡ list.old.items }

@@ -20,16 +20,16 @@ pub returns-in_err-draft-clause-refused : goal.returns-in_err-draft-clause-refus
 returns-in_err-draft-clause-refused g c =
     let p = err_from_is_err_and c.from_residual.result c.from_residual.ensures.1 in
     let items = ap (λ s. plain_list s c.doc.result.list.now.items) c.doc.ensures.store ∙ c.doc.ensures.items in
-    rw (p.1, p.2) (undrafted (replica_of c.args.editor.now) (page_items c.doc.result) c.args.change.now c.in_err-draft.field-0.0 items c.in_err-draft.ensures.refused)
+    rw (p.1, p.2) (undrafted (replica_of c.args.trial.now.page) (page_items c.doc.result) c.args.change.now c.in_err-draft.field-0.0 items c.in_err-draft.ensures.refused)
 
 pub perform-requires : goal.perform-requires
 perform-requires g c =
     let items = ap (λ s. plain_list s c.doc.result.list.now.items) c.doc.ensures.store ∙ c.doc.ensures.items in
-    record { draft = (drafted_on (replica_of c.args.editor.now) c.doc.result.store.now (page_items c.doc.result) c.args.change.now c.in_ok-draft.draft c.doc.ensures.store items c.in_ok-draft.ensures.ok).draft }
+    record { draft = (drafted_on (replica_of c.args.trial.now.page) c.doc.result.store.now (page_items c.doc.result) c.args.change.now c.in_ok-draft.draft c.doc.ensures.store items c.in_ok-draft.ensures.ok).draft }
 
 pub returns-in-Ok-clause-ok : goal.returns-in-Ok-clause-ok
 returns-in-Ok-clause-ok g c =
-    let r = replica_of c.args.editor.now in
+    let r = replica_of c.args.trial.now.page in
     let items = ap (λ s. plain_list s c.doc.result.list.now.items) c.doc.ensures.store ∙ c.doc.ensures.items in
     let d = drafted_on r c.doc.result.store.now (page_items c.doc.result) c.args.change.now c.in_ok-draft.draft c.doc.ensures.store items c.in_ok-draft.ensures.ok in
     let t = drafted r.store c.in_ok-draft.draft in
@@ -44,7 +44,7 @@ returns-in-Ok-clause-ok g c =
 
 pub returns-in-Ok-clause-steps : goal.returns-in-Ok-clause-steps
 returns-in-Ok-clause-steps g c = λ _.
-    let r = replica_of c.args.editor.now in
+    let r = replica_of c.args.trial.now.page in
     let items = ap (λ s. plain_list s c.doc.result.list.now.items) c.doc.ensures.store ∙ c.doc.ensures.items in
     let d = drafted_on r c.doc.result.store.now (page_items c.doc.result) c.args.change.now c.in_ok-draft.draft c.doc.ensures.store items c.in_ok-draft.ensures.ok in
     let t = drafted r.store c.in_ok-draft.draft in
@@ -52,7 +52,7 @@ returns-in-Ok-clause-steps g c = λ _.
 
 pub returns-clause-refused : goal.returns-clause-refused
 returns-clause-refused g c =
-    let r = replica_of c.args.editor.now in
+    let r = replica_of c.args.trial.now.page in
     let items = ap (λ s. plain_list s c.doc.result.list.now.items) c.doc.ensures.store ∙ c.doc.ensures.items in
     let d = drafted_on r c.doc.result.store.now (page_items c.doc.result) c.args.change.now c.in_ok-draft.draft c.doc.ensures.store items c.in_ok-draft.ensures.ok in
     let t = drafted r.store c.in_ok-draft.draft in

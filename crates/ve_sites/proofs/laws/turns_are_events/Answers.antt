@@ -4,8 +4,8 @@ use Rattle.ve_sites.proofs.laws.turns_are_events.Goals as goal
 pub returns-clause-edit : goal.returns-clause-edit
 returns-clause-edit c = law.edit_happens
 
-pub returns-clause-settle : goal.returns-clause-settle
-returns-clause-settle c = law.settling_happens
+pub returns-clause-attempt : goal.returns-clause-attempt
+returns-clause-attempt c = law.attempt_happens
 
 pub returns-clause-select : goal.returns-clause-select
 returns-clause-select c = law.select_happens

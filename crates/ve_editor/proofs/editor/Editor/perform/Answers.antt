@@ -19,7 +19,7 @@ returns-in-Ok-clause-allowed g c =
 pub returns-in-Ok-clause-page : goal.returns-in-Ok-clause-page
 returns-in-Ok-clause-page g c =
     performed_is c.args.draft.now c.self.inside.store c.ready.new.store c.self.inside.list.items c.self.inside.selection c.ready.new.list c.ready.new.tree c.in-Ok.performing c.in-Ok.ensures.ok c.in-Ok.ensures.items
-    c.commit.new.list.items c.moved-self-inside.result c.commit.ensures
+    c.commit.new.list.items c.moved-self-inside.result c.commit.ensures.items
     (c.moved-self-inside.ensures c.ready.new.store (drafted_values c.self.inside.store c.args.draft.now))
     ∙ ap (λ (r : LinkedPage). performed (drafted r.store c.args.draft.now) (replica_of r)) c.self.view_is
 

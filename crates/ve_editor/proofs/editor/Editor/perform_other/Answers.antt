@@ -13,7 +13,7 @@ use Rattle.ve_editor.proofs.editor.Editor.perform_other.Goals as goal
 pub returns-in-Ok-clause-page : goal.returns-in-Ok-clause-page
 returns-in-Ok-clause-page g c =
     other_is (by_value c.args.values.now c.args.tx.now) c.self.inside.store c.ready_other.new.store c.self.inside.list.items c.commit.new.list.items c.self.inside.selection
-    c.moved-self-inside.result c.ready_other.new.list c.ready_other.new.tree c.in-Ok.admitting c.in-Ok.ensures.ok c.in-Ok.ensures.items c.commit.ensures
+    c.moved-self-inside.result c.ready_other.new.list c.ready_other.new.tree c.in-Ok.admitting c.in-Ok.ensures.ok c.in-Ok.ensures.items c.commit.ensures.items
     (c.moved-self-inside.ensures c.ready_other.new.store c.args.values.now)
     ∙ ap (λ (r : LinkedPage). performed (by_value c.args.values.now c.args.tx.now) (replica_of r)) c.self.view_is
 
@@ -37,7 +37,7 @@ returns-in-Ok-clause-numbers g c =
 pub returns-in-Ok-clause-tree : goal.returns-in-Ok-clause-tree
 returns-in-Ok-clause-tree g c =
     committed_tree (by_value c.args.values.now c.args.tx.now) c.self.inside.store c.ready_other.new.store c.ready_other.new.list c.ready_other.new.tree c.in-Ok.admitting.change
-    c.commit.new.list.items c.in-Ok.ensures.ok.change c.commit.ensures
+    c.commit.new.list.items c.in-Ok.ensures.ok.change c.commit.ensures.items
 
 pub returns-in-Err-clause-kept : goal.returns-in-Err-clause-kept
 returns-in-Err-clause-kept g c =

@@ -12,7 +12,7 @@ use Rattle.ve_editor.proofs.editor.Editor.put_back.Goals as goal
 pub returns-in-Ok-clause-page : goal.returns-in-Ok-clause-page
 returns-in-Ok-clause-page g c =
     put_back_is (by_value c.self.inside.store c.args.tx.now) c.self.inside.store c.ready_back.new.store c.self.inside.list.items c.commit.new.list.items c.self.inside.selection
-    c.moved-self-inside.result c.ready_back.new.list c.ready_back.new.tree c.in-Ok.change c.in-Ok.ensures.ok c.in-Ok.ensures.items c.commit.ensures (c.moved-self-inside.ensures c.ready_back.new.store c.self.inside.store)
+    c.moved-self-inside.result c.ready_back.new.list c.ready_back.new.tree c.in-Ok.change c.in-Ok.ensures.ok c.in-Ok.ensures.items c.commit.ensures.items (c.moved-self-inside.ensures c.ready_back.new.store c.self.inside.store)
     ∙ ap (λ (r : LinkedPage). put_back (by_value r.store c.args.tx.now) (replica_of r)) c.self.view_is
 
 pub ready_back-requires-clause-cites : goal.ready_back-requires-clause-cites
@@ -34,7 +34,7 @@ returns-in-Ok-clause-numbers g c =
 pub returns-in-Ok-clause-tree : goal.returns-in-Ok-clause-tree
 returns-in-Ok-clause-tree g c =
     committed_tree (by_value c.self.inside.store c.args.tx.now) c.self.inside.store c.ready_back.new.store c.ready_back.new.list c.ready_back.new.tree c.in-Ok.change c.commit.new.list.items
-    c.in-Ok.ensures.ok.change c.commit.ensures
+    c.in-Ok.ensures.ok.change c.commit.ensures.items
 
 pub returns-in-Err-clause-kept : goal.returns-in-Err-clause-kept
 returns-in-Err-clause-kept g c =

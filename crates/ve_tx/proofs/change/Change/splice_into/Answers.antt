@@ -8,13 +8,13 @@ use Rattle.ve_tx.proofs.change.Change.splice_into.Goals as goal
 pub splice-requires : goal.splice-requires
 splice-requires c =
     let next : c.loop-left.left ≡ suc (c.loop-left.left - 1) = omega (arith, c.loop-left-test.true) in
-    made-fits c.args.list.now.items c.loop-left.list.items c.loop-left.list.spare c.loop-left.left (c.loop-left.left - 1) c.args.self.now.splices.items c.index-splice.result.now
+    made-fits c.args.list.now.items c.loop-left.list.items c.args.list.now.spare c.loop-left.list.spare c.loop-left.left (c.loop-left.left - 1) c.args.self.now.splices.items c.index-splice.result.now
     c.loop-left.invariant next c.index-splice.ensures c.requires.within
 
 pub prove-unreachable-requires : goal.prove-unreachable-requires
 prove-unreachable-requires c =
     let next : c.loop-left.left ≡ suc (c.loop-left.left - 1) = omega (arith, c.loop-left-test.true) in
-    let room = made-room c.args.list.now.items c.loop-left.list.items c.loop-left.list.spare c.loop-left.left (c.loop-left.left - 1) c.args.self.now.splices.items c.index-splice.result.now
+    let room = made-room c.args.list.now.items c.loop-left.list.items c.args.list.now.spare c.loop-left.list.spare c.loop-left.left (c.loop-left.left - 1) c.args.self.now.splices.items c.index-splice.result.now
     c.loop-left.invariant next c.index-splice.ensures in
     let same : length c.as_slice.result.now ≡ length c.index-splice.result.now.items = ap length c.as_slice.ensures in
     let fits : is_ok c.splice.result ≡ true = c.splice.ensures.fits (omega arith) in
@@ -27,7 +27,7 @@ loop-left-preserved c =
     let next : c.loop-left.left ≡ suc (c.loop-left.left - 1) = omega (arith, c.loop-left-test.true) in
     let splice = c.index-splice.result.now in
     let ok : is_ok c.splice.result ≡ true = sym c.is_ok-spliced.ensures.value ∙ c.if-prove.false in
-    made-next c.args.list.now.items c.loop-left.list.items c.loop-left.list.spare c.loop-left.left (c.loop-left.left - 1) c.args.self.now.splices.items splice
+    made-next c.args.list.now.items c.loop-left.list.items c.args.list.now.spare c.loop-left.list.spare c.loop-left.left (c.loop-left.left - 1) c.args.self.now.splices.items splice
     c.loop-left.invariant next c.index-splice.ensures c.splice.new.self.items c.splice.new.self.spare
     (ok-holds _ c.splice.result ok c.splice.ensures.ok ∙ ap (λ l. spliced c.loop-left.list.items splice.at splice.removed l) c.as_slice.ensures)
     (ok-holds _ c.splice.result ok c.splice.ensures.spare ∙ ap (λ l. c.loop-left.list.spare - length l) c.as_slice.ensures)

@@ -16,5 +16,5 @@ returns-clause-cites c =
     let splices = c.in_ok-change.change.splices.items in
     let extends : Extends S c.change.new.store = extends_by_fill S c.change.new.store (changed_heads (by_value S c.args.self.now) (plain_list S list)) c.in_ok-change.ensures.store in
     let P : List Item → Type 0 = All (CitesWell c.change.new.store) in
-    subst P (sym (c.splice_into.ensures ∙ ap (λ l. spliced_by l splices) c.in_ok-change.ensures.items))
+    subst P (sym (c.splice_into.ensures.items ∙ ap (λ l. spliced_by l splices) c.in_ok-change.ensures.items))
     (spliced-cites c.change.new.store list splices (all-extended S c.change.new.store extends list c.requires.list) c.in_ok-change.ensures.cites)

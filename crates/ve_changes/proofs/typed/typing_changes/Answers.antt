@@ -1,7 +1,7 @@
 use Rattle.std.proofs.Common.{◌∙◌}
 use Rattle.ve_changes.proofs.TypingLemmas.{typing_caret, typing_range}
-use Rattle.ve_changes.proofs.typed.typing.Goals.{then-selection+in_ok-push, else-selection}
-use Rattle.ve_changes.proofs.typed.typing.Goals as goal
+use Rattle.ve_changes.proofs.typed.typing_changes.Goals.{then-selection+in_ok-push, else-selection}
+use Rattle.ve_changes.proofs.typed.typing_changes.Goals as goal
 
 pub returns : goal.returns
 returns c = elim c.if-selection.branch [

@@ -1,0 +1,34 @@
+use Rattle.std.proofs.Common.{sym, ap, ◌∙◌, subst, arith}
+use Rattle.model_items.specs.Plain.{plain_list}
+use Rattle.model_change.specs.Touch.{touch}
+use Rattle.ve_repair.specs.Change.{LawfulAfter}
+use Rattle.ve_tx.specs.Operation.{by_value}
+use Rattle.ve_editor.specs.Edited.{drafted}
+use Rattle.ve_editor.proofs.AllowedLemmas.{may_perform, over_new}
+use Rattle.ve_editor.proofs.RelinkLemmas.{within_touch}
+use Rattle.ve_editor.proofs.noted.ready_on_trial.Goals as goal
+
+pub with_entry-requires-clause-lawful : goal.with_entry-requires-clause-lawful
+with_entry-requires-clause-lawful g c = subst (LawfulAfter c.args.draft.now.tx) (sym (c.noted.ensures.items ∙ c.in_ok-change.ensures.items)) c.in_ok-change.ensures.ok.lawful
+
+pub returns-in-Ok-with_entry-clause-ok : goal.returns-in-Ok-with_entry-clause-ok
+returns-in-Ok-with_entry-clause-ok g c =
+    may_perform c.args.draft.now c.args.store.now c.checked.new.store c.noted.new.list c.args.list.now.items c.with_entry.new.tree c.in_ok-change.change c.in-Ok-with_entry.ready (c.noted.ensures.items ∙ c.in_ok-change.ensures.items)
+    c.in_ok-change.ensures.ok (omega (arith, c.in-Ok.ensures.owed)) c.in-Ok-with_entry.ensures.change c.in-Ok-with_entry.ensures.tree c.in-Ok-with_entry.ensures.txs
+    (c.in-Ok-with_entry.ensures.before ∙ c.len-before.ensures.count) c.in-Ok-with_entry.ensures.after c.in-Ok-with_entry.ensures.cites
+
+pub returns-in-Ok-with_entry-clause-steps : goal.returns-in-Ok-with_entry-clause-steps
+returns-in-Ok-with_entry-clause-steps g c =
+    let d = c.args.draft.now in
+    let items = c.args.list.now.items in
+    let new = c.checked.new.store in
+    within_touch new d.tx c.noted.new.list.items (drafted c.args.store.now d) (plain_list c.args.store.now items) _ _
+    (ap (λ l. touch (by_value new d.tx) (plain_list new l)) (c.noted.ensures.items ∙ c.in_ok-change.ensures.items) ∙ over_new d c.args.store.now new items c.in_ok-change.change c.in_ok-change.ensures.ok touch) c.with_entry.ensures.steps
+
+pub returns-in-Err-with_entry-clause-steps : goal.returns-in-Err-with_entry-clause-steps
+returns-in-Err-with_entry-clause-steps g c =
+    let d = c.args.draft.now in
+    let items = c.args.list.now.items in
+    let new = c.checked.new.store in
+    within_touch new d.tx c.noted.new.list.items (drafted c.args.store.now d) (plain_list c.args.store.now items) _ _
+    (ap (λ l. touch (by_value new d.tx) (plain_list new l)) (c.noted.ensures.items ∙ c.in_ok-change.ensures.items) ∙ over_new d c.args.store.now new items c.in_ok-change.change c.in_ok-change.ensures.ok touch) c.with_entry.ensures.steps

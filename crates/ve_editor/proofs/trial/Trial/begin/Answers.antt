@@ -1,0 +1,18 @@
+use Rattle.std.proofs.Common.{◌∙◌}
+use Rattle.ve_tree.specs.IsTree.{unvalued}
+use Rattle.ve_editor.proofs.GoBackLemmas.{begins, first_begun}
+use Rattle.ve_editor.proofs.trial.Trial.begin.Goals as goal
+
+pub invariant_of-result : goal.invariant_of-result
+invariant_of-result c =
+    let e = c.editor.inside in (
+      c.editor.invariant,
+      begins e.store e.list e.tree c.in-Ok.first_tree c.new.result c.len-values.result c.editor.invariant
+          (c.in-Ok.ensures.tree (unvalued e.list.items) c.editor.invariant.tree.links) c.new.ensures c.len-values.ensures.count,
+    )
+
+pub returns-in-Ok-clause-ok : goal.returns-in-Ok-clause-ok
+returns-in-Ok-clause-ok c =
+    let e = c.editor.inside in
+    let first = first_begun e.store e.list.items e.selection e.tree c.in-Ok.first_tree c.new.result c.len-values.result c.new.ensures c.len-values.ensures.count c.in-Ok.ensures.arena c.in-Ok.ensures.root ∙ c.editor.view_is in
+    λ i. record { page = c.editor.view_is i; first = first i }

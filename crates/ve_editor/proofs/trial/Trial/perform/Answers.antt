@@ -1,0 +1,77 @@
+use Rattle.std.proofs.Common.{◌≤◌, ◌+◌, All, List, sym, ap, ◌∙◌, subst}
+use Rattle.model_change.specs.Cost.{cost_of_transaction}
+use Rattle.model_items.specs.declared.item.Item.{Item}
+use Rattle.model_items.specs.Plain.{CitesWell}
+use Rattle.model_site.specs.Refused.{edit_cause}
+use Rattle.model_site.specs.Replica.{performed}
+use Rattle.ve_tree.specs.IsTree.{unvalued}
+use Rattle.ve_tree.specs.TreeOf.{IsTreeOf}
+use Rattle.ve_editor.specs.Edited.{drafted, drafted_values}
+use Rattle.ve_editor.specs.Page.{replica_of}
+use Rattle.ve_editor.specs.Refusal.{IsEditRefusal}
+use Rattle.ve_editor.specs.Trials.{Tried}
+use Rattle.ve_editor.proofs.GoBackLemmas.{first_stays, goes_back, notes_cut, page_cut, still_goes_back, values_cut}
+use Rattle.ve_editor.proofs.PerformLemmas.{performed_is, allowed_is}
+use Rattle.ve_editor.proofs.StayLemmas.{unchanged_cut}
+use Rattle.ve_editor.proofs.trial.Trial.perform.Goals as goal
+
+pub invariant_of-self : goal.invariant_of-self
+invariant_of-self g c =
+    let t = c.self.inside in
+    let new = c.ready_on_trial.new.store in
+    let will = c.in-Ok.ensures.ok.change in (
+      record {
+        cites = subst (λ (l : List Item). All (CitesWell new) l) (sym c.commit.ensures.items) will.cites;
+        tree = subst (λ (l : List Item). IsTreeOf c.ready_on_trial.new.tree (unvalued l)) (sym c.commit.ensures.items) will.tree;
+      },
+      goes_back t.store new t.list c.ready_on_trial.new.list c.commit.new.list c.in-Ok.performing.change.splices.items t.back c.ready_on_trial.new.back t.values t.first_tree c.self.invariant.1
+          c.ready_on_trial.ensures.extends c.ready_on_trial.ensures.items will.fits.within c.commit.ensures.items c.in-Ok.ensures.notes c.in-Ok.ensures.owed c.commit.ensures.spare,
+    )
+
+pub invariant_of-self-in-Err : goal.invariant_of-self-in-Err
+invariant_of-self-in-Err g c =
+    let t = c.self.inside in
+    let values = values_cut t.store c.ready_on_trial.new.store c.truncate.new.self c.len-before.result c.ready_on_trial.ensures.extends c.len-before.ensures.count c.truncate.ensures in
+    let notes = notes_cut t.back c.ready_on_trial.new.back c.truncate-in-Err.new.self c.len-noted.result c.ready_on_trial.ensures.front c.len-noted.ensures c.truncate-in-Err.ensures in (
+      page_cut t.store c.truncate.new.self t.list.items c.ready_on_trial.new.list.items c.ready_on_trial.new.tree c.self.invariant.0.cites values c.ready_on_trial.ensures.items c.in-Err.ensures.kept,
+      still_goes_back t.store c.truncate.new.self t.list c.ready_on_trial.new.list t.back c.truncate-in-Err.new.self t.values t.first_tree c.self.invariant.1
+          values c.ready_on_trial.ensures.items c.ready_on_trial.ensures.spare notes,
+    )
+
+pub returns-in-Ok-clause-allowed : goal.returns-in-Ok-clause-allowed
+returns-in-Ok-clause-allowed g c =
+    ap (λ (t : Tried). edit_cause (drafted t.page.store c.args.draft.now) (replica_of t.page)) (sym c.self.view_is)
+    ∙ allowed_is c.args.draft.now c.self.inside.store c.ready_on_trial.new.store c.self.inside.list.items c.self.inside.selection c.ready_on_trial.new.list c.ready_on_trial.new.tree c.in-Ok.performing c.in-Ok.ensures.ok
+    c.ready_on_trial.ensures.items
+
+pub returns-in-Ok-clause-page : goal.returns-in-Ok-clause-page
+returns-in-Ok-clause-page g c =
+    performed_is c.args.draft.now c.self.inside.store c.ready_on_trial.new.store c.self.inside.list.items c.self.inside.selection c.ready_on_trial.new.list c.ready_on_trial.new.tree c.in-Ok.performing c.in-Ok.ensures.ok
+    c.ready_on_trial.ensures.items c.commit.new.list.items c.moved-self-inside.result c.commit.ensures.items
+    (c.moved-self-inside.ensures c.ready_on_trial.new.store (drafted_values c.self.inside.store c.args.draft.now))
+    ∙ ap (λ (t : Tried). performed (drafted t.page.store c.args.draft.now) (replica_of t.page)) c.self.view_is
+
+pub returns-in-Ok-clause-first : goal.returns-in-Ok-clause-first
+returns-in-Ok-clause-first g c =
+    let t = c.self.inside in
+    first_stays t.store c.ready_on_trial.new.store t.list c.ready_on_trial.new.list c.commit.new.list c.in-Ok.performing.change.splices.items t.back c.ready_on_trial.new.back t.values t.first_tree c.self.invariant.1
+    c.ready_on_trial.ensures.extends c.ready_on_trial.ensures.items c.in-Ok.ensures.ok.change.fits.within c.commit.ensures.items c.in-Ok.ensures.notes t.first_selection
+    ∙ ap (λ (t : Tried). t.first) c.self.view_is
+
+pub returns-in-Ok-clause-steps : goal.returns-in-Ok-clause-steps
+returns-in-Ok-clause-steps g c =
+    subst (λ (t : Tried). c.ready_on_trial.new.steps ≤ c.args.steps.now + cost_of_transaction (drafted t.page.store c.args.draft.now) t.page.items) c.self.view_is c.ready_on_trial.ensures.steps
+
+pub returns-in-Err-clause-refused : goal.returns-in-Err-clause-refused
+returns-in-Err-clause-refused g c =
+    subst (λ (t : Tried). IsEditRefusal (edit_cause (drafted t.page.store c.args.draft.now) (replica_of t.page)) c.in-Err.fault) c.self.view_is c.in-Err.ensures.refused
+
+pub returns-in-Err-clause-kept : goal.returns-in-Err-clause-kept
+returns-in-Err-clause-kept g c =
+    let t = c.self.inside in
+    unchanged_cut c.args.self.now.page t.store c.ready_on_trial.new.store c.truncate.new.self c.len-before.result t.list.items c.ready_on_trial.new.list.items t.selection t.tree c.ready_on_trial.new.tree
+    (ap (λ (t : Tried). t.page) c.self.view_is) c.ready_on_trial.ensures.extends c.len-before.ensures.count c.truncate.ensures c.ready_on_trial.ensures.items c.in-Err.ensures.same c.ready_on_trial.ensures.root
+
+pub returns-in-Err-clause-steps : goal.returns-in-Err-clause-steps
+returns-in-Err-clause-steps g c =
+    subst (λ (t : Tried). c.ready_on_trial.new.steps ≤ c.args.steps.now + cost_of_transaction (drafted t.page.store c.args.draft.now) t.page.items) c.self.view_is c.ready_on_trial.ensures.steps

@@ -1,0 +1,32 @@
+-- What takes a list back to what it was before splices of it.
+use Rattle.std.specs.Prelude.{ℕ, ◌+◌, ◌≤◌, List, [], ◌∷◌, ◌++◌, length, slice_range, take}
+use Rattle.ve_base.specs.declared.value.Value.{Value}
+use Rattle.model_items.specs.declared.item.Item.{Item}
+use Rattle.ve_items.specs.ItemList.{ItemList}
+use Rattle.ve_tree.specs.declared.tree.Tree.{Tree}
+use Rattle.ve_tx.specs.Spliced.{come_count, spliced_by}
+use Rattle.ve_tx.specs.declared.splice.Splice.{Splice}
+use Rattle.ve_editor.specs.Page.{IsPage}
+
+-- the splice that undoes a splice of a list
+abbrev pub undoing : List Item → Splice → Splice
+undoing items splice = record { at = splice.at; removed = length splice.items; items = slice_range items splice.at (splice.at + splice.removed) }
+
+-- The splices that undo splices at rising positions of a list. The first was made last, so that it
+-- is undone first, and stands last.
+abbrev pub backward : List Item → List Splice → List Splice
+backward items [] = []
+backward items (splice ∷ more) = backward items more ++ undoing items splice ∷ []
+
+-- The last can be made of the list, and each of what those behind it give.
+abbrev pub LieInTurn : List Item → List Splice → Type 0
+LieInTurn items [] = Unit {0}
+LieInTurn items (splice ∷ more) = LieInTurn items more × (splice.at + splice.removed ≤ length (spliced_by items more))
+
+-- A page can go back, without memory, to what these splices make of its list, over the first values
+-- of its store: there is room for them, and this is the tree of what they make.
+pub record CanGoBack (store : List Value) (list : ItemList) (back : List Splice) (values : ℕ) (first : Tree) : Type 0 where
+  pub turn : LieInTurn list.items back
+  pub room : come_count back ≤ list.spare
+  pub stored : values ≤ length store
+  pub page : IsPage (take values store) (spliced_by list.items back) first

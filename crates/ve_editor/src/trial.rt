@@ -1,0 +1,249 @@
+// A page on which changes are made for a try.
+ghost use Rattle.std.specs.Prelude.{◌≡◌, ◌≢◌, ◌≤◌, ◌+◌, ◌∷◌, [], None, IfOk, IfErr, OnOk, OnErr};
+ghost use Rattle.model_change.specs.Cost.{cost_of_transaction};
+ghost use Rattle.model_items.specs.Plain.{plain_list};
+ghost use Rattle.model_site.specs.Entries.{entry_of};
+ghost use Rattle.model_site.specs.Refused.{edit_cause};
+ghost use Rattle.model_site.specs.Replica.{performed};
+
+use crate::Editor;
+use crate::back::Back;
+use crate::noted::ready_on_trial;
+use crate::prepare::commit;
+use crate::selected::moved;
+use model_edit::Selection;
+use model_site::EditFault;
+use std::alloc::Global;
+use std::marker::Model;
+use std::sync::ledger::Ledger;
+use ve_base::{Memory, Steps};
+use ve_items::Linear;
+use ve_offsets::Doc;
+use ve_store::Store;
+use ve_tree::Tree;
+use ve_tx::{Draft, Entry};
+
+/// A page on which changes are made in place, and which can go back to what it was before the
+/// first of them. Going back takes no memory, so it never fails. The view is the page as it is, and
+/// as it was.
+///
+/// It keeps a copy of the tree that was, how many values there were, and the splices that take the
+/// list back, for which the list has room.
+pub struct Trial {
+    list: Linear,
+    store: Store,
+    tree: Tree,
+    selection: Selection,
+    alloc: Global,
+    back: Back,
+    values: usize,
+    first_tree: Tree,
+    first_selection: Selection,
+}
+
+impl Drop for Trial {
+    fn drop(self) {
+        let Trial {
+            list,
+            store,
+            tree,
+            selection: _,
+            alloc: _,
+            back,
+            values: _,
+            first_tree,
+            first_selection: _,
+        } = self;
+        drop(list);
+        drop(store);
+        drop(tree);
+        drop(back);
+        drop(first_tree);
+    }
+}
+
+impl Model for Trial {
+    ghost use Rattle.ve_editor.specs.Back.{CanGoBack};
+    ghost use Rattle.ve_editor.specs.Page.{IsPage, linked_page, nodes_of_tree, page_of};
+    ghost use Rattle.ve_editor.specs.Trials.{Tried, first_page};
+
+    ghost Value = { Tried };
+
+    ghost view = { λ t. record {
+      page = linked_page (page_of t.store t.list.items t.selection) (nodes_of_tree t.tree);
+      first = first_page t.store t.list.items t.back t.values t.first_selection t.first_tree;
+    } };
+
+    ghost invariant = { λ t. IsPage t.store t.list.items t.tree
+        × CanGoBack t.store t.list t.back t.values t.first_tree };
+}
+
+impl Trial {
+    ghost use Rattle.ve_editor.specs.Edited.{IsDraftOf, drafted, entry_by_value, EntryCites};
+    ghost use Rattle.ve_editor.specs.Page.{IsPage, nodes_of_tree, replica_of};
+    ghost use Rattle.ve_editor.specs.Refusal.{IsEditRefusal};
+    ghost use Rattle.ve_editor.specs.Stays.{IsUnchanged};
+
+    /// A trial of an editor's page. Where there is no memory for it, the editor is given back.
+    pub fn begin(editor: Editor) -> Result<Trial, Editor>
+        ensures ok { IfOk result (λ trial. trial ≡ record { page = editor; first = editor }) }
+        ensures err { IfErr result (λ back. back ≡ editor) }
+    {
+        match editor.tree.copy(editor.alloc) {
+            Ok(first_tree) => {
+                let Editor {
+                    list,
+                    store,
+                    tree,
+                    selection,
+                    alloc,
+                } = editor;
+                let values = store.len();
+                Ok(Trial {
+                    list,
+                    store,
+                    tree,
+                    selection,
+                    alloc,
+                    back: Back::new(alloc),
+                    values,
+                    first_tree,
+                    first_selection: selection,
+                })
+            }
+            Err(Memory) => Err(editor),
+        }
+    }
+
+    /// Lends list, tree and store of the page as it is.
+    pub fn doc(&self) -> Doc<'_>
+        ensures items { plain_list self.now.page.store result.list.now.items ≡ self.now.page.items }
+        ensures store { result.store.now ≡ self.now.page.store }
+        ensures page { IsPage self.now.page.store result.list.now.items result.tree.now }
+        ensures nodes { nodes_of_tree result.tree.now ≡ self.now.page.nodes }
+    {
+        Doc {
+            list: &self.list,
+            tree: &self.tree,
+            store: &self.store,
+        }
+    }
+
+    /// The selection.
+    pub fn selection(&self) -> Selection
+        ensures { result ≡ self.now.page.selection }
+    {
+        self.selection
+    }
+
+    /// Performs a draft, as `Editor::perform` does: with the same entry, the same refusals, and as
+    /// many steps. What the page was when the trial began stays what it can go back to.
+    pub fn perform<L: Ledger>(
+        &mut self,
+        draft: &Draft,
+        steps: &mut Steps<L>,
+    ) -> Result<Entry, EditFault>
+        requires draft { IsDraftOf self.old.page.store draft.now }
+        ensures allowed { OnOk result (
+            edit_cause (drafted self.old.page.store draft.now) (replica_of self.old.page) ≡ None) }
+        ensures page { OnOk result (
+            replica_of self.new.page
+            ≡ performed (drafted self.old.page.store draft.now) (replica_of self.old.page)) }
+        ensures entry { IfOk result (λ entry.
+            entry_by_value self.new.page.store entry
+            ≡ entry_of (drafted self.old.page.store draft.now ∷ []) (replica_of self.old.page)) }
+        ensures cites { IfOk result (EntryCites self.new.page.store) }
+        ensures refused { IfErr result (
+            IsEditRefusal (
+            edit_cause (drafted self.old.page.store draft.now) (replica_of self.old.page))) }
+        ensures kept { OnErr result (IsUnchanged self.old.page self.new.page) }
+        ensures first { self.new.first ≡ self.old.first }
+        ensures counted { steps.old ≤ steps.new }
+        ensures steps { steps.new
+            ≤ steps.old
+            + cost_of_transaction (drafted self.old.page.store draft.now) self.old.page.items }
+        ensures unstepped { IfErr result (λ why. why ≢ EditFault.Memory → steps.new ≡ steps.old) }
+    {
+        let before = self.store.len();
+        let noted = self.back.len();
+        match ready_on_trial(
+            self.alloc,
+            &mut self.list,
+            &mut self.store,
+            &mut self.tree,
+            &mut self.back,
+            draft,
+            steps,
+        ) {
+            Ok(performing) => {
+                commit(&mut self.list, performing.change);
+                let doc = Doc {
+                    list: &self.list,
+                    tree: &self.tree,
+                    store: &self.store,
+                };
+                self.selection = moved(doc, &draft.tx, self.selection);
+                Ok(performing.entry)
+            }
+            Err(fault) => {
+                self.store.truncate(before);
+                self.back.truncate(noted);
+                Err(fault)
+            }
+        }
+    }
+
+    /// Ends the trial with the page as it is.
+    pub fn keep(self) -> Editor
+        ensures { result ≡ self.page }
+    {
+        let Trial {
+            list,
+            store,
+            tree,
+            selection,
+            alloc,
+            back,
+            values: _,
+            first_tree,
+            first_selection: _,
+        } = self;
+        drop(back);
+        drop(first_tree);
+        Editor {
+            list,
+            store,
+            tree,
+            selection,
+            alloc,
+        }
+    }
+
+    /// Ends the trial with the page as it was, node by node.
+    pub fn take_back(self) -> Editor
+        ensures { result ≡ self.first }
+    {
+        let Trial {
+            mut list,
+            mut store,
+            tree,
+            selection: _,
+            alloc,
+            back,
+            values,
+            first_tree,
+            first_selection,
+        } = self;
+        back.put_back(&mut list);
+        store.truncate(values);
+        drop(back);
+        drop(tree);
+        Editor {
+            list,
+            store,
+            tree: first_tree,
+            selection: first_selection,
+            alloc,
+        }
+    }
+}
