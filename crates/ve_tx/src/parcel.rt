@@ -26,8 +26,8 @@ pub struct Parcel {
 pub type ParcelList = ListOf<Parcel>;
 
 impl Parcel {
-    /// The parcel of an entry: the same transactions by value, with their kept positions, and both
-    /// numbers. Its values are those that the transactions cite in the store, each once, in the
+    /// The parcel of an entry: the same transactions by value, with their kept positions, and all
+    /// else that the entry says. Its values are those that the transactions cite in the store, each once, in the
     /// order in which they are first cited. In one operation the items removed come before those
     /// inserted; in one item come head, marks and whitespace.
     pub fn of(alloc: Global, entry: &Entry, store: &Store) -> Result<Parcel, Memory>
@@ -39,6 +39,8 @@ impl Parcel {
             parcel.entry.store_before ≡ entry.now.store_before) }
         ensures store_after { IfOk result (λ parcel.
             parcel.entry.store_after ≡ entry.now.store_after) }
+        ensures takes_back { IfOk result (λ parcel.
+            parcel.entry.takes_back ≡ entry.now.takes_back) }
         ensures values { IfOk result (λ parcel.
             parcel.values ≡ fill [] (all_cited (map (by_value store.now) entry.now.txs))) }
         ensures distinct { IfOk result (λ parcel. AreDistinct parcel.values) }
@@ -55,6 +57,7 @@ impl Parcel {
                 txs,
                 store_before: entry.store_before,
                 store_after: entry.store_after,
+                takes_back: entry.takes_back,
             },
             values: copies.values,
         })
