@@ -1,5 +1,5 @@
 -- Entries made and taken back.
-use Rattle.std.proofs.Common.{◌≡◌, List, [], ◌∷◌, codes, refl}
+use Rattle.std.proofs.Common.{◌≡◌, List, [], ◌∷◌, None, codes, refl}
 use Rattle.ve_base.specs.declared.value.Value.TheVariants as value
 use Rattle.model_change.specs.Transaction.{Transaction}
 use Rattle.model_site.specs.Replica.{all_performed}
@@ -12,7 +12,7 @@ bold_a = inserts 1 (marked bold (codes "a")) 4 ∷ []
 abbrev two : List Transaction
 two = inserts 1 (marked bold (codes "a")) 4 ∷ inserts 2 (marked italic (codes "b")) 5 ∷ []
 
-numbers : entry_of two (opened []) ≡ record { txs = two; store_before = 0; store_after = 2 }
+numbers : entry_of two (opened []) ≡ record { txs = two; store_before = 0; store_after = 2; takes_back = None }
 numbers = refl
 
 -- the last transaction first, and the values that came go
@@ -20,15 +20,15 @@ both_gone : reverted (entry_of two (opened [])) (all_performed two (opened [])) 
 both_gone = refl
 
 -- the entry added nothing: what taking it back brought stays
-no_cut : cut_back (record { txs = bold_a; store_before = 1; store_after = 1 }) 1 (value.Marks bold ∷ value.Marks italic ∷ [])
+no_cut : cut_back (record { txs = bold_a; store_before = 1; store_after = 1; takes_back = None }) 1 (value.Marks bold ∷ value.Marks italic ∷ [])
     ≡ value.Marks bold ∷ value.Marks italic ∷ []
 no_cut = refl
 
 -- the store grew since: nothing goes
-grown : cut_back (record { txs = bold_a; store_before = 0; store_after = 1 }) 2 (value.Marks bold ∷ value.Marks italic ∷ []) ≡ value.Marks bold ∷ value.Marks italic ∷ []
+grown : cut_back (record { txs = bold_a; store_before = 0; store_after = 1; takes_back = None }) 2 (value.Marks bold ∷ value.Marks italic ∷ []) ≡ value.Marks bold ∷ value.Marks italic ∷ []
 grown = refl
 
-cut : cut_back (record { txs = two; store_before = 1; store_after = 2 }) 2 (value.Marks bold ∷ value.Marks italic ∷ []) ≡ value.Marks bold ∷ []
+cut : cut_back (record { txs = two; store_before = 1; store_after = 2; takes_back = None }) 2 (value.Marks bold ∷ value.Marks italic ∷ []) ≡ value.Marks bold ∷ []
 cut = refl
 
 -- the last entry goes first: after the other order the second would take out another letter

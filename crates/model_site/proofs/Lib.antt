@@ -2,6 +2,7 @@ mod ExampleItems
 mod ReplicaExamples
 mod RefusedExamples
 mod EntryExamples
+mod LiveExamples
 mod SiteExamples
 mod UntoldExamples
 mod JoinedExamples

@@ -1,5 +1,5 @@
 -- Two sites and the server.
-use Rattle.std.proofs.Common.{◌≡◌, ℕ, List, [], ◌∷◌, length, map, slice_get, Option, Some, None, option_map, Result, Ok, Err, codes, refl}
+use Rattle.std.proofs.Common.{◌≡◌, ℕ, true, false, List, [], ◌∷◌, length, map, slice_get, Option, Some, None, option_map, Result, Ok, Err, codes, refl}
 use Rattle.ve_base.specs.declared.value.Value.{Value}
 use Rattle.ve_base.specs.declared.value.Value.TheVariants as value
 use Rattle.model_items.specs.declared.plain_item.PlainItem.{PlainItem}
@@ -85,7 +85,7 @@ again_one_list : lists (run in_conflict (Serve 1 ∷ Take 1 ∷ Take 1 ∷ Take 
 again_one_list = refl
 
 -- site 0 takes its committed entry back under site 1's
-revoked : lists (run both_insert (Serve 0 ∷ Serve 1 ∷ Take 0 ∷ Take 0 ∷ Revoke 0 0 ∷ [])) ≡ page (codes "B") ∷ page (codes "B") ∷ []
+revoked : lists (run both_insert (Serve 0 ∷ Serve 1 ∷ Take 0 ∷ Take 0 ∷ Revoke 0 0 false ∷ [])) ≡ page (codes "B") ∷ page (codes "B") ∷ []
 revoked = refl
 
 -- what a send answers: the base and the number of entries, or why not
@@ -121,3 +121,19 @@ undone_after = refl
 
 values_stay : stores (run two_marks (Undo 1 ∷ [])) ≡ (value.Marks italic ∷ []) ∷ (value.Marks bold ∷ value.Marks italic ∷ []) ∷ []
 values_stay = refl
+
+-- Site 0 inserts A and then B behind it, shares both, and takes back B and then A. B and what takes it
+-- back don't stand in the way of A, where what counts is asked.
+abbrev two_shared : Session
+two_shared = run (started (opened []) 2)
+    (Perform 0 (inserts 1 (chars_ (codes "A")) 4 ∷ [])
+    ∷ Perform 0 (inserts 2 (chars_ (codes "B")) 5 ∷ [])
+    ∷ Send 0
+    ∷ Serve 0
+    ∷ Take 0
+    ∷ Revoke 0 1 true
+    ∷ Revoke 0 0 true
+    ∷ [])
+
+both_taken_back : lists two_shared ≡ page [] ∷ page [] ∷ []
+both_taken_back = refl

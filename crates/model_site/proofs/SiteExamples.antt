@@ -64,7 +64,7 @@ abbrev sent : Site → Site
 sent s = sent_of s (send s)
 
 -- what is undone is not sent
-submitted : submission_of (send (undone with_ab)) ≡ Some (record { base = 0; entries = insert_a ∷ [] })
+submitted : submission_of (send (undone with_ab)) ≡ Some (record { base = 0; entries = insert_a ∷ []; hints = None ∷ [] })
 submitted = refl
 
 still_undone : (redone (sent (undone with_ab))).replica.items ≡ page (codes "ab")

@@ -1,5 +1,5 @@
 -- Transactions that are one change: made, and taken back.
-use Rattle.std.specs.Prelude.{ℕ, ◌&&◌, ◌==◌, nat_lt, if◌then◌else◌, List, [], ◌∷◌, length, take, map}
+use Rattle.std.specs.Prelude.{ℕ, ◌&&◌, ◌==◌, nat_lt, if◌then◌else◌, List, [], ◌∷◌, Option, None, length, take, map}
 use Rattle.ve_base.specs.declared.value.Value.{Value}
 use Rattle.model_change.specs.Transaction.{Transaction}
 use Rattle.model_change.specs.Replay.{reversal}
@@ -9,18 +9,35 @@ use Rattle.model_site.specs.Replica.{Replica, all_performed, all_put_back, all_f
 abbrev pub Parcel : Type 0
 Parcel = List Transaction
 
+-- Of each of some entries, the number of the entry that it takes back, if it takes one back. It goes
+-- with the entry, and decides nothing by itself: a join tells whether it is so.
+abbrev pub Hints : Type 0
+Hints = List (Option ℕ)
+
 -- an entry as a site keeps it, with the lengths of the store before and after it
 pub record Entry : Type 0 where
   pub txs : Parcel
   pub store_before : ℕ
   pub store_after : ℕ
+  pub takes_back : Option ℕ
 
 abbrev pub parcels : List Entry → List Parcel
 parcels entries = map (λ (e : Entry). e.txs) entries
 
--- transactions as the entry that performing them gives
+abbrev pub hints : List Entry → Hints
+hints entries = map (λ (e : Entry). e.takes_back) entries
+
+-- transactions as the entry that performing them gives, which takes that one back
+abbrev pub entry_against : Option ℕ → List Transaction → Replica → Entry
+entry_against taken ts r = record {
+  txs = all_filled ts r.items;
+  store_before = length r.store;
+  store_after = length (all_performed ts r).store;
+  takes_back = taken;
+}
+
 abbrev pub entry_of : List Transaction → Replica → Entry
-entry_of ts r = record { txs = all_filled ts r.items; store_before = length r.store; store_after = length (all_performed ts r).store }
+entry_of ts r = entry_against None ts r
 
 -- The store after an entry was taken back; `was` is its length before that. The values that the
 -- entry added go, if they are the last of it.

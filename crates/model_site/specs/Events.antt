@@ -1,6 +1,6 @@
 -- Events of a session, of one site or of the server, one after the other. A refused event changes
 -- nothing.
-use Rattle.std.specs.Prelude.{ℕ, List, [], ◌∷◌, ◌++◌, slice_get, Option, Some, None, Result, Ok, Err}
+use Rattle.std.specs.Prelude.{ℕ, Bool, List, [], ◌∷◌, ◌++◌, slice_get, Option, Some, None, Result, Ok, Err}
 use Rattle.model_change.specs.Transaction.{Transaction}
 use Rattle.model_edit.specs.declared.selection.Selection.{Selection}
 use Rattle.model_site.specs.Site.{Site, with_entry, with_selection, with_told, undo, redo, send, revoke_entry, Submission}
@@ -14,8 +14,9 @@ pub data Event : Type 0 where
   Tell : (k : ℕ) → Event
   Undo : (k : ℕ) → Event
   Redo : (k : ℕ) → Event
-  -- an entry of those that the site knows, taken back
-  Revoke : (k i : ℕ) → Event
+  -- an entry of those that the site knows, taken back; where `live`, what took each other back does
+  -- not stand in the way
+  Revoke : (k i : ℕ) (live : Bool) → Event
   Send : (k : ℕ) → Event
   -- the server's turn at the submissions of the site at k
   Serve : (k : ℕ) → Event
@@ -49,7 +50,7 @@ happens w (Select k selection) = at_member w (slice_get w.members k) (λ m. with
 happens w (Tell k) = at_member w (slice_get w.members k) (λ m. with_site k m (with_told m.site) w)
 happens w (Undo k) = at_member w (slice_get w.members k) (λ m. with_site_of k m (undo m.site) w)
 happens w (Redo k) = at_member w (slice_get w.members k) (λ m. with_site_of k m (redo m.site) w)
-happens w (Revoke k i) = at_member w (slice_get w.members k) (λ m. with_site_of k m (revoke_entry w.committed i m.site) w)
+happens w (Revoke k i live) = at_member w (slice_get w.members k) (λ m. with_site_of k m (revoke_entry w.committed w.hints live i m.site) w)
 happens w (Send k) = at_member w (slice_get w.members k) (λ m. with_sent k m (send m.site) w)
 happens w (Serve k) = at_member w (slice_get w.members k) (λ m. after_turn w (serve_next k m w))
 happens w (Take k) = at_member w (slice_get w.members k) (λ m. after_turn w (take_next k m w))

@@ -3,6 +3,7 @@ pub mod Replica
 pub mod Causes
 pub mod Refused
 pub mod Entries
+pub mod Live
 pub mod Site
 pub mod Joined
 pub mod Take

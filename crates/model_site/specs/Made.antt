@@ -1,12 +1,12 @@
 -- The transactions that a site makes of its list where it undoes, redoes, revokes or takes, in their
 -- order.
-use Rattle.std.specs.Prelude.{ℕ, List, [], ◌∷◌, ◌++◌, length, drop, Result, Ok, Err}
-use Rattle.model_change.specs.Join.{RangeConflict}
-use Rattle.model_change.specs.Replay.{flattened, reversal, revoke}
+use Rattle.std.specs.Prelude.{ℕ, Bool, List, [], ◌∷◌, ◌++◌, length, drop, Result, Ok, Err}
+use Rattle.model_change.specs.Replay.{flattened, reversal}
 use Rattle.model_change.specs.Transaction.{Transaction}
-use Rattle.model_site.specs.Entries.{Entry, Parcel, parcels}
+use Rattle.model_site.specs.Entries.{Entry, Hints, Parcel, parcels}
 use Rattle.model_site.specs.Joined.{join_entries}
-use Rattle.model_site.specs.Site.{Site, entries_of, init_and_last, pending}
+use Rattle.model_site.specs.Live.{RevokeCause, revocation}
+use Rattle.model_site.specs.Site.{Site, hinted_entries, init_and_last, pending}
 use Rattle.model_site.specs.Take.{take_entry}
 
 -- the last of a site's entries that are not sent, taken back
@@ -31,10 +31,10 @@ abbrev pub taking_all : List Parcel → Site → List Transaction
 taking_all [] s = []
 taking_all (entry ∷ entries) s = taking_one entry s ++ taking_all entries (take_entry entry s)
 
-abbrev pub back_of : Result (List Transaction) RangeConflict → List Transaction
-back_of (Err clash) = []
+abbrev pub back_of : Result (List Transaction) RevokeCause → List Transaction
+back_of (Err cause) = []
 back_of (Ok back) = back
 
--- entry i of those that a site knows taken back; none, if that is in conflict
-abbrev pub revoking : (committed : List Parcel) → ℕ → Site → List Transaction
-revoking committed i s = back_of (revoke (entries_of committed s) i)
+-- entry i of those that a site knows taken back; none, if that is refused
+abbrev pub revoking : (committed : List Parcel) → Hints → (live : Bool) → ℕ → Site → List Transaction
+revoking committed taken live i s = back_of (revocation live (hinted_entries committed taken s) i)

@@ -1,6 +1,6 @@
 -- A page under edit by several sites: their queues, the committed entries, and the turns of server
 -- and sites.
-use Rattle.std.specs.Prelude.{ℕ, zero, suc, ◌-◌, ◌==◌, if◌then◌else◌, List, [], ◌∷◌, ◌++◌, length, drop, replicate, Option, Some, None}
+use Rattle.std.specs.Prelude.{ℕ, zero, suc, ◌-◌, ◌==◌, if◌then◌else◌, List, [], ◌∷◌, ◌++◌, length, take, drop, replicate, Option, Some, None}
 use Rattle.model_change.specs.Join as join
 use Rattle.model_change.specs.Replay.{flattened}
 use Rattle.model_site.specs.declared.served.Clash.{Clash}
@@ -8,7 +8,7 @@ use Rattle.model_site.specs.declared.served.Served.{Served}
 use Rattle.model_site.specs.declared.taken.Taken.{Taken}
 use Rattle.model_site.specs.declared.taken.Taken.TheVariants as taken
 use Rattle.model_site.specs.Replica.{Replica}
-use Rattle.model_site.specs.Entries.{Parcel}
+use Rattle.model_site.specs.Entries.{Parcel, Hints}
 use Rattle.model_site.specs.Site.{Site, starting, pending, Submission}
 use Rattle.model_site.specs.Joined.{Joined, join_entries}
 use Rattle.model_site.specs.Take.{take_foreign, take_ack}
@@ -27,6 +27,8 @@ pub record Member : Type 0 where
 pub record Session : Type 0 where
   pub base : Replica
   pub committed : List Parcel
+  -- what each of these takes back
+  pub hints : Hints
   pub members : List Member
 
 -- so many sites, all at the base
@@ -34,7 +36,7 @@ abbrev pub joining : Replica → Member
 joining base = record { site = starting base; submissions = []; feeds = [] }
 
 abbrev pub started : Replica → ℕ → Session
-started base sites = record { base = base; committed = []; members = replicate sites (joining base) }
+started base sites = record { base = base; committed = []; hints = []; members = replicate sites (joining base) }
 
 -- the member at k replaced
 abbrev pub put_member : ℕ → Member → List Member → List Member
@@ -75,6 +77,7 @@ serve_one k m s later w =
     let j = accepted_of w.committed s in (
       record w {
         committed = w.committed ++ j.kept;
+        hints = w.hints ++ take (length j.kept) s.hints;
         members = all_fed k 0 j.kept (put_member k (record m { submissions = later }) w.members);
       },
       served_as j s,

@@ -1,8 +1,7 @@
 -- One site: what it edits, takes back and sends.
-use Rattle.std.specs.Prelude.{ℕ, ◌+◌, ◌==◌, if◌then◌else◌, List, [], ◌∷◌, ◌++◌, length, take, Option, Some, None, Result, Ok, Err}
+use Rattle.std.specs.Prelude.{ℕ, ◌+◌, ◌==◌, Bool, if◌then◌else◌, List, [], ◌∷◌, ◌++◌, length, take, drop, Option, Some, None, Result, Ok, Err}
 use Rattle.model_change.specs.Transaction.{Transaction}
-use Rattle.model_change.specs.Join.{RangeConflict}
-use Rattle.model_change.specs.Replay.{reversal, revoke}
+use Rattle.model_change.specs.Replay.{reversal}
 use Rattle.model_edit.specs.declared.selection.Selection.{Selection}
 use Rattle.model_site.specs.Causes.{EditCause, UndoCause, NothingToUndo, AlreadyShared, RedoCause, NothingToRedo, SendCause, InFlight, NothingToSend}
 use Rattle.model_site.specs.Replica.{Replica, all_performed}
@@ -10,7 +9,8 @@ use Rattle.model_site.specs.Untold as untold
 use Rattle.model_site.specs.Untold.{Untold, all_untold, none_untold, passed}
 use Rattle.model_site.specs.declared.patch.Patch.{Patch}
 use Rattle.model_site.specs.Refused.{edit_cause}
-use Rattle.model_site.specs.Entries.{Parcel, Entry, parcels, entry_of, reverted}
+use Rattle.model_site.specs.Entries.{Parcel, Entry, Hints, parcels, hints, entry_against, reverted}
+use Rattle.model_site.specs.Live.{RevokeCause, Hinted, hinted, revocation}
 
 pub record Site : Type 0 where
   pub replica : Replica
@@ -22,8 +22,9 @@ pub record Site : Type 0 where
   -- first
   pub sent : List Entry
   pub unsent : List Entry
-  -- the undone entries, the last first
+  -- the undone entries, the last first, and what they take back
   pub undone : List Parcel
+  pub undone_hints : Hints
   -- how many entries it sent since the page was opened
   pub shared : ℕ
   -- how many entries its submission has, while one is on its way and not acknowledged
@@ -31,7 +32,17 @@ pub record Site : Type 0 where
 
 -- a site as it begins
 abbrev pub starting : Replica → Site
-starting r = record { replica = r; untold = all_untold (length r.items); seen = 0; sent = []; unsent = []; undone = []; shared = 0; in_flight = None }
+starting r = record {
+  replica = r;
+  untold = all_untold (length r.items);
+  seen = 0;
+  sent = [];
+  unsent = [];
+  undone = [];
+  undone_hints = [];
+  shared = 0;
+  in_flight = None;
+}
 
 -- its pending entries: the sent ones and then the unsent
 abbrev pub pending : Site → List Entry
@@ -48,15 +59,19 @@ told site = untold.told (length site.replica.items) site.untold
 abbrev pub with_told : Site → Site
 with_told site = record site { untold = none_untold (length site.replica.items) }
 
--- transactions performed as one new entry: a change, a batch, typing, or what takes another entry
--- back
-abbrev pub with_entry : List Transaction → Site → Site
-with_entry ts site = record site {
+-- transactions performed as one new entry, which takes that one back
+abbrev pub with_entry_against : Option ℕ → List Transaction → Site → Site
+with_entry_against taken ts site = record site {
   replica = all_performed ts site.replica;
   untold = passed ts site.untold;
-  unsent = site.unsent ++ entry_of ts site.replica ∷ [];
+  unsent = site.unsent ++ entry_against taken ts site.replica ∷ [];
   undone = [];
+  undone_hints = [];
 }
+
+-- the same of a change, a batch or typing, which take no entry back
+abbrev pub with_entry : List Transaction → Site → Site
+with_entry ts site = with_entry_against None ts site
 
 abbrev pub edit_unless : Option EditCause → Transaction → Site → Result Site EditCause
 edit_unless (Some fault) t site = Err fault
@@ -77,6 +92,7 @@ with_undone last left site = record site {
   untold = passed (reversal last.txs) site.untold;
   unsent = left;
   undone = last.txs ∷ site.undone;
+  undone_hints = last.takes_back ∷ site.undone_hints;
 }
 
 abbrev pub undo_last : List Entry → Site → Result Site UndoCause
@@ -87,25 +103,34 @@ undo_last (e ∷ es) site = let p = init_and_last e es in Ok (with_undone p.1 p.
 abbrev pub undo : Site → Result Site UndoCause
 undo site = undo_last site.unsent site
 
+abbrev pub first_hint : Hints → Option ℕ
+first_hint [] = None
+first_hint (taken ∷ later) = taken
+
 abbrev pub redo_first : List Parcel → Site → Result Site RedoCause
 redo_first [] site = Err NothingToRedo
-redo_first (ts ∷ undone) site = Ok (record (with_entry ts site) { undone = undone })
+redo_first (ts ∷ undone) site = Ok (record (with_entry_against (first_hint site.undone_hints) ts site) {
+  undone = undone;
+  undone_hints = drop 1 site.undone_hints;
+})
 
--- the last undone entry is performed again, as a new entry
+-- the last undone entry is performed again, as a new entry that takes back what it took back
 abbrev pub redo : Site → Result Site RedoCause
 redo site = redo_first site.undone site
 
--- a submission of a site: its entries, made on the list with so many committed ones
+-- a submission of a site: its entries, made on the list with so many committed ones, and what they
+-- take back
 pub record Submission : Type 0 where
   pub base : ℕ
   pub entries : List Parcel
+  pub hints : Hints
 
 abbrev pub send_unless : Option ℕ → List Entry → Site → Result (Site × Submission) SendCause
 send_unless (Some entries) unsent site = Err (InFlight entries)
 send_unless None [] site = Err NothingToSend
 send_unless None (e ∷ es) site = Ok (
   record site { sent = site.sent ++ e ∷ es; unsent = []; shared = site.shared + length (e ∷ es); in_flight = Some (length (e ∷ es)) },
-  record { base = site.seen; entries = parcels (e ∷ es) },
+  record { base = site.seen; entries = parcels (e ∷ es); hints = hints (e ∷ es) },
 )
 
 -- all unsent entries are sent as one submission, where none is on its way
@@ -117,11 +142,18 @@ send site = send_unless site.in_flight site.unsent site
 abbrev pub entries_of : (committed : List Parcel) → Site → List Parcel
 entries_of committed site = take site.seen committed ++ parcels (pending site)
 
--- Entry i of these taken back under all later ones, as a new entry; or the first conflict. Only a
--- committed one may be named, so i is below `seen`.
-abbrev pub revoke_by : Result (List Transaction) RangeConflict → Site → Result Site RangeConflict
-revoke_by (Err clash) site = Err clash
-revoke_by (Ok back) site = Ok (with_entry back site)
+-- what each of these takes back
+abbrev pub hints_of : (committed : Hints) → Site → Hints
+hints_of committed site = take site.seen committed ++ hints (pending site)
 
-abbrev pub revoke_entry : (committed : List Parcel) → ℕ → Site → Result Site RangeConflict
-revoke_entry committed i site = revoke_by (revoke (entries_of committed site) i) site
+abbrev pub hinted_entries : (committed : List Parcel) → Hints → Site → List Hinted
+hinted_entries committed taken site = hinted (entries_of committed site) (hints_of taken site)
+
+-- Entry i of these taken back under all later ones, or under those that still count, as a new entry
+-- that takes i back; or why not. Only a committed one may be named, so i is below `seen`.
+abbrev pub revoke_by : (i : ℕ) → Result (List Transaction) RevokeCause → Site → Result Site RevokeCause
+revoke_by i (Err cause) site = Err cause
+revoke_by i (Ok back) site = Ok (with_entry_against (Some i) back site)
+
+abbrev pub revoke_entry : (committed : List Parcel) → Hints → (live : Bool) → ℕ → Site → Result Site RevokeCause
+revoke_entry committed taken live i site = revoke_by i (revocation live (hinted_entries committed taken site) i) site

@@ -8,6 +8,7 @@
 //! - `Causes`, `Refused`: why a transaction is not performed, and why a site does not undo, redo or
 //!   send;
 //! - `Entries`: transactions that are one change, and how the store goes back with them;
+//! - `Live`: what still counts of entries, and an entry taken back under it;
 //! - `Site`: edits, undo, redo, sending, and taking a known entry back;
 //! - `Joined`: entries joined one after the other over committed ones, up to the first conflict;
 //! - `Take`: what a site makes of foreign entries and of an acknowledgement;
