@@ -1,5 +1,6 @@
 pub mod ReplayLemmas
 pub mod RevertLemmas
+pub mod LiveLemmas
 pub mod JoinedLemmas
 pub mod UntilConflictLemmas
 pub mod StoreLemmas
