@@ -7,6 +7,8 @@ pub mod StoreLemmas
 pub mod PerformLemmas
 pub mod NeedLemmas
 pub mod AcceptLemmas
+pub mod BackLemmas
+pub mod StepLemmas
 pub mod ChainLemmas
 pub mod SiteLemmas
 pub mod MemberLemmas

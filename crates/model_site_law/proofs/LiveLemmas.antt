@@ -92,7 +92,7 @@ replay_alike (t ∷ ts) (u ∷ us) items h =
 
 -- ---- entries that count
 
-all_standing-append : (ss more : List Standing) → all_standing (ss ++ more) ≡ all_standing ss ++ all_standing more
+pub all_standing-append : (ss more : List Standing) → all_standing (ss ++ more) ≡ all_standing ss ++ all_standing more
 all_standing-append [] more = refl
 all_standing-append (s ∷ ss) more = ap (λ r. s.txs ++ r) (all_standing-append ss more) ∙ sym (append_assoc s.txs (all_standing ss) (all_standing more))
 
@@ -260,13 +260,13 @@ what_counts_is_all entries i standing base r e =
     }
 
 -- what an entry is taken back under
-record Under (own : List Transaction) (r : Result (List Standing) ℕ) (back : List Transaction) : Type 0 where
-  standing : List Standing
-  without : List Transaction
-  counts : r ≡ Ok standing
-  joined : join_list (all_standing standing) (reversal own) ≡ Ok (without, back)
+pub record Under (own : List Transaction) (r : Result (List Standing) ℕ) (back : List Transaction) : Type 0 where
+  pub standing : List Standing
+  pub without : List Transaction
+  pub counts : r ≡ Ok standing
+  pub joined : join_list (all_standing standing) (reversal own) ≡ Ok (without, back)
 
-under_live-ok : (own : List Transaction) (r : Result (List Standing) ℕ) (back : List Transaction) → under_live own r ≡ Ok back → Under own r back
+pub under_live-ok : (own : List Transaction) (r : Result (List Standing) ℕ) (back : List Transaction) → under_live own r ≡ Ok back → Under own r back
 under_live-ok own (Err by) back e = cc
 under_live-ok own (Ok standing) back e = by_join (join_list (all_standing standing) (reversal own)) refl e
   where
