@@ -125,6 +125,19 @@ try_list-append a b (t ∷ mine) =
         by_next None e = none (try_list r.0 mine) e
         by_next (Some q) e = ap (option_map (under_it q)) (ih r.0 q.0) ∙ swap (try_list r.0 mine) q e
 
+from_or_none : {A : Type 0} (r : Result A RangeConflict) (x : A) → or_none r ≡ Some x → r ≡ Ok x
+from_or_none (Err clash) x h = cc
+from_or_none (Ok y) x h = let same : y ≡ x = cc in ap (λ z. Ok z) same
+
+-- what joins over the first part, and then over the second, joins over both
+pub joins_in_parts : (a b mine : List Transaction) (r s : List Transaction × List Transaction) → join_list a mine ≡ Ok r → join_list b r.1 ≡ Ok s →
+    join_list (a ++ b) mine ≡ Ok (r.0 ++ s.0, s.1)
+joins_in_parts a b mine r s e f =
+    let first : try_list a mine ≡ Some r = sym (try_list_is a mine) ∙ ap or_none e in
+    let second : try_list b r.1 ≡ Some s = sym (try_list_is b r.1) ∙ ap or_none f in
+    from_or_none (join_list (a ++ b) mine) (r.0 ++ s.0, s.1)
+    (try_list_is (a ++ b) mine ∙ try_list-append a b mine ∙ ap (lists_then b) first ∙ ap (lists_on r) second)
+
 -- ---- what is kept
 
 -- the first entry, joined or not, and what is kept of the rest

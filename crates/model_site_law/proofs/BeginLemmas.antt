@@ -4,21 +4,21 @@ use Rattle.std.proofs.Math.Seq.{take-append-add}
 use Rattle.std.proofs.lemmas.List.{length-append, take-append-drop}
 use Rattle.std.proofs.lemmas.List.Elements.{All-append, All-cons, All-drop, All-head, All-nil, All-tail}
 use Rattle.ve_base.specs.declared.value.Value.{Value}
-use Rattle.model_change.specs.Join.{RangeConflict}
-use Rattle.model_change.specs.Replay.{reversal, revoke}
+use Rattle.model_change.specs.Replay.{reversal}
 use Rattle.model_change.specs.Store.{brought, changed_heads}
 use Rattle.model_change.specs.Transaction.{Transaction}
-use Rattle.model_site.specs.Entries.{Entry, Parcel, all_reverted, entry_of, parcels, reverted}
+use Rattle.model_site.specs.Entries.{Entry, Parcel, all_reverted, parcels, reverted, Hints, hints, entry_against}
 use Rattle.model_site.specs.Events.{Event, Perform, Redo, Revoke, Select, Send, Serve, Take, Tell, Undo, after_turn, at_member, happens, run, with_sent, with_site_of}
 use Rattle.model_site.specs.Joined.{join_entries}
+use Rattle.model_site.specs.Live.{RevokeCause, revocation}
 use Rattle.model_site.specs.Replica.{Replica, all_performed, all_put_back, performed, put_back}
 use Rattle.model_site.specs.Session.{Ack, SiteFeed, Foreign, Member, Session, all_fed, joining, put_member, serve_first, started, take_first}
-use Rattle.model_site.specs.Site.{Site, Submission, entries_of, init_and_last, with_undone, pending, redo_first, revoke_by, send_unless, undo_last, with_entry, with_selection, with_told}
+use Rattle.model_site.specs.Site.{Site, Submission, init_and_last, with_undone, pending, redo_first, revoke_by, send_unless, undo_last, with_entry, with_selection, with_told, with_entry_against, first_hint, hinted_entries}
 use Rattle.model_site.specs.Take.{parcel_entries, take_ack, take_entry, take_foreign}
 use Rattle.model_site_law.specs.Protocol.{Every}
 use Rattle.model_site_law.specs.StoreLaws.{BeginsWith, StoreBegins}
 use Rattle.model_site_law.proofs.SessionLemmas.{every_get, every_put}
-use Rattle.model_site_law.proofs.SiteLemmas.{parted_is}
+use Rattle.model_site_law.proofs.SiteLemmas.{parted_is, with_redone}
 use Rattle.model_site_law.proofs.StoreLemmas.{Grown, fill_grows, grown_itself, grown_twice}
 
 -- ---- one replica
@@ -78,19 +78,20 @@ module _ (first : List Value) where
   same_begins : (s next : Site) → next.replica.store ≡ s.replica.store → pending next ≡ pending s → BeginsWith first s → BeginsWith first next
   same_begins s next store left b = record { more = b.more; begins = store ∙ b.begins; since = subst (All Since) (sym left) b.since }
 
-  entry_begins : (ts : List Transaction) (s : Site) → BeginsWith first s → BeginsWith first (with_entry ts s)
-  entry_begins ts s b =
-      let e = entry_of ts s.replica in
+  entry_begins : (taken : Option ℕ) (ts : List Transaction) (s : Site) → BeginsWith first s → BeginsWith first (with_entry_against taken ts s)
+  entry_begins taken ts s b =
+      let e = entry_against taken ts s.replica in
       let low : Since e = reaches s.replica.store (as_grown s b) in
-      begins_of (with_entry ts s)
+      begins_of (with_entry_against taken ts s)
       (grown_twice first s.replica.store (all_performed ts s.replica).store (as_grown s b) (performed_grows ts s.replica))
       (subst (All Since) (append_assoc s.sent s.unsent (e ∷ []))
       (All-append Since (pending s) (e ∷ []) b.since (All-cons Since e [] low (All-nil Since))))
 
-  noted_since : (n : ℕ) (ps : List Parcel) → length first ≤ n → All Since (parcel_entries n ps)
-  noted_since n [] low = All-nil Since
-  noted_since n (p ∷ ps) low =
-      All-cons Since (record { txs = p; store_before = n; store_after = n }) (parcel_entries n ps) low (noted_since n ps low)
+  noted_since : (n : ℕ) (taken : Hints) (ps : List Parcel) → length first ≤ n → All Since (parcel_entries n taken ps)
+  noted_since n taken [] low = All-nil Since
+  noted_since n taken (p ∷ ps) low =
+      All-cons Since (record { txs = p; store_before = n; store_after = n; takes_back = first_hint taken }) (parcel_entries n (drop 1 taken) ps) low
+      (noted_since n (drop 1 taken) ps low)
 
   take_entry_begins : (foreign : Parcel) (s : Site) → BeginsWith first s → BeginsWith first (take_entry foreign s)
   take_entry_begins foreign s b =
@@ -98,13 +99,13 @@ module _ (first : List Value) where
       let dropped = drop (length j.kept) (pending s) in
       let back = all_reverted dropped s.replica in
       let new = all_performed j.committed back in
-      let kept = parcel_entries (length new.store) j.kept in
+      let kept = parcel_entries (length new.store) (hints (pending s)) j.kept in
       let g : Grown first new.store =
       grown_twice first back.store new.store
       (all_reverted_begin dropped s.replica (All-drop Since (length j.kept) (pending s) b.since) (as_grown s b))
       (performed_grows j.committed back) in
       begins_of (take_entry foreign s) g
-      (subst (All Since) (sym (take-append-drop (length s.sent) kept)) (noted_since (length new.store) j.kept (reaches new.store g)))
+      (subst (All Since) (sym (take-append-drop (length s.sent) kept)) (noted_since (length new.store) (hints (pending s)) j.kept (reaches new.store g)))
 
   take_foreign_begins : (ps : List Parcel) (s : Site) → BeginsWith first s → BeginsWith first (take_foreign ps s)
   take_foreign_begins [] s b = same_begins s (take_foreign [] s) refl refl b
@@ -171,12 +172,13 @@ module _ (first : List Value) where
     redo_begins : (m : Member) → Begins m → (us : List Parcel) → After (with_site_of k m (redo_first us m.site) w)
     redo_begins m b [] = all
     redo_begins m b (ts ∷ us) =
-        let site = record (with_entry ts m.site) { undone = us } in
-        put (record m { site = site }) (same_begins (with_entry ts m.site) site refl refl (entry_begins ts m.site b))
+        let site = with_redone ts us m.site in
+        let taken = first_hint m.site.undone_hints in
+        put (record m { site = site }) (same_begins (with_entry_against taken ts m.site) site refl refl (entry_begins taken ts m.site b))
 
-    revoke_begins : (m : Member) → Begins m → (r : Result (List Transaction) RangeConflict) → After (with_site_of k m (revoke_by r m.site) w)
-    revoke_begins m b (Err clash) = all
-    revoke_begins m b (Ok back) = put (record m { site = with_entry back m.site }) (entry_begins back m.site b)
+    revoke_begins : (i : ℕ) (m : Member) → Begins m → (r : Result (List Transaction) RevokeCause) → After (with_site_of k m (revoke_by i r m.site) w)
+    revoke_begins i m b (Err cause) = all
+    revoke_begins i m b (Ok back) = put (record m { site = with_entry_against (Some i) back m.site }) (entry_begins (Some i) back m.site b)
 
     send_begins : (m : Member) → Begins m → (o : Option ℕ) (es : List Entry) → es ≡ m.site.unsent →
         After (with_sent k m (send_unless o es m.site) w)
@@ -184,7 +186,7 @@ module _ (first : List Value) where
     send_begins m b None [] e = all
     send_begins m b None (x ∷ es) e =
         let site = record m.site { sent = m.site.sent ++ x ∷ es; unsent = []; shared = m.site.shared + length (x ∷ es); in_flight = Some (length (x ∷ es)) } in
-        let submission : Submission = record { base = m.site.seen; entries = parcels (x ∷ es) } in
+        let submission : Submission = record { base = m.site.seen; entries = parcels (x ∷ es); hints = hints (x ∷ es) } in
         put (record { site = site; submissions = m.submissions ++ submission ∷ []; feeds = m.feeds })
         (same_begins m.site site refl (append-nil (m.site.sent ++ x ∷ es) ∙ ap (λ us. m.site.sent ++ us) e) b)
 
@@ -199,7 +201,7 @@ module _ (first : List Value) where
 
   event_begins : (w : Session) (e : Event) → Every Begins w.members → Every Begins (happens w e).members
   event_begins w (Perform k ts) all =
-      at_site w k all _ (λ m b. put w k all (record m { site = with_entry ts m.site }) (entry_begins ts m.site b))
+      at_site w k all _ (λ m b. put w k all (record m { site = with_entry ts m.site }) (entry_begins None ts m.site b))
   event_begins w (Select k s) all =
       at_site w k all _ (λ m b.
       let site = with_selection s m.site in put w k all (record m { site = site }) (same_begins m.site site refl refl b))
@@ -207,8 +209,8 @@ module _ (first : List Value) where
       at_site w k all _ (λ m b. let site = with_told m.site in put w k all (record m { site = site }) (same_begins m.site site refl refl b))
   event_begins w (Undo k) all = at_site w k all _ (λ m b. undo_begins w k all m b m.site.unsent refl)
   event_begins w (Redo k) all = at_site w k all _ (λ m b. redo_begins w k all m b m.site.undone)
-  event_begins w (Revoke k i) all =
-      at_site w k all _ (λ m b. revoke_begins w k all m b (revoke (entries_of w.committed m.site) i))
+  event_begins w (Revoke k i live) all =
+      at_site w k all _ (λ m b. revoke_begins w k all i m b (revocation live (hinted_entries w.committed w.hints m.site) i))
   event_begins w (Send k) all = at_site w k all _ (λ m b. send_begins w k all m b m.site.in_flight m.site.unsent refl)
   event_begins w (Serve k) all = at_site w k all _ (λ m b. serve_begins w k all m b m.submissions)
   event_begins w (Take k) all = at_site w k all _ (λ m b. take_begins w k all m b m.feeds)

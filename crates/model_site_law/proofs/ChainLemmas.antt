@@ -9,7 +9,7 @@ use Rattle.model_change.specs.Inverse.{filled}
 use Rattle.model_change.specs.Replay.{AllRun, flattened, replay, reversal}
 use Rattle.model_change.specs.Store.{cited}
 use Rattle.model_change.specs.Transaction.{Transaction, all_removed}
-use Rattle.model_site.specs.Entries.{Entry, Parcel, all_reverted, parcels, reverted}
+use Rattle.model_site.specs.Entries.{Entry, Parcel, all_reverted, parcels, reverted, Hints}
 use Rattle.model_site.specs.Replica.{Replica, all_filled, all_performed, all_put_back, performed}
 use Rattle.model_site.specs.Take.{parcel_entries}
 use Rattle.model_site_law.specs.Chain.{Chain, needed_values}
@@ -184,10 +184,11 @@ all_reverted_kept es (f ∷ fs) s items sound runs list c held =
 
 -- ---- entries with one number
 
-pub chain_noted : (S : List Value) (least : ℕ) (items : List PlainItem) (ps : List Parcel) → least ≤ length S → AllNeeded S ps → Chain S least items (parcel_entries (length S) ps)
-chain_noted S least items [] h n = h
-chain_noted S least items (p ∷ ps) h n =
-    (h, omega arith, (λ r. absurd (omega arith)), subst (λ r. AllIn r (needed_values p)) (sym (take-length S)) n.0, chain_noted S (length S) (replay p items) ps (omega arith) n.1)
+pub chain_noted : (S : List Value) (least : ℕ) (items : List PlainItem) (taken : Hints) (ps : List Parcel) → least ≤ length S → AllNeeded S ps →
+    Chain S least items (parcel_entries (length S) taken ps)
+chain_noted S least items taken [] h n = h
+chain_noted S least items taken (p ∷ ps) h n =
+    (h, omega arith, (λ r. absurd (omega arith)), subst (λ r. AllIn r (needed_values p)) (sym (take-length S)) n.0, chain_noted S (length S) (replay p items) (drop 1 taken) ps (omega arith) n.1)
 
 -- what entries need is there
 pub chain_needed : (S : List Value) (least : ℕ) (items : List PlainItem) (es : List Entry) → Chain S least items es → AllNeeded S (parcels es)

@@ -4,15 +4,15 @@ use Rattle.std.proofs.Common.{◌≡◌, ℕ, zero, suc, ◌+◌, ◌≤◌, Lis
 use Rattle.std.proofs.lemmas.List.{append_assoc, append-nil}
 use Rattle.ve_base.specs.declared.value.Value.{Value}
 use Rattle.model_items.specs.declared.plain_item.PlainItem.{PlainItem}
-use Rattle.model_change.specs.Join.{RangeConflict}
-use Rattle.model_change.specs.Replay.{AllRun, flattened, replay, revoke}
+use Rattle.model_change.specs.Replay.{AllRun, flattened, replay}
 use Rattle.model_change.specs.Store.{cited}
 use Rattle.model_change.specs.Transaction.{Transaction}
-use Rattle.model_site.specs.Entries.{Entry, Parcel, entry_of, parcels, reverted}
+use Rattle.model_site.specs.Entries.{Entry, Parcel, entry_of, parcels, reverted, hints, entry_against}
 use Rattle.model_site.specs.Events.{Event, Perform, Redo, Revoke, Select, Send, Serve, Take, Tell, Undo, after_turn, at_member, happens, run, with_sent, with_site, with_site_of}
+use Rattle.model_site.specs.Live.{RevokeCause, revocation}
 use Rattle.model_site.specs.Replica.{Replica, all_filled, all_performed}
 use Rattle.model_site.specs.Session.{Ack, SiteFeed, Foreign, Member, Session, all_fed, joining, put_member, serve_first, serve_next, started, take_first, take_next}
-use Rattle.model_site.specs.Site.{Site, Submission, entries_of, init_and_last, with_undone, pending, redo, redo_first, revoke_by, revoke_entry, send, send_unless, undo, undo_last, with_entry, with_selection, with_told}
+use Rattle.model_site.specs.Site.{Site, Submission, init_and_last, with_undone, pending, redo, redo_first, revoke_by, revoke_entry, send, send_unless, undo, undo_last, with_entry, with_selection, with_told, with_entry_against, first_hint, hinted_entries}
 use Rattle.model_site.specs.Take.{take_ack, take_entry, take_foreign}
 use Rattle.model_site.specs.Causes.{RedoCause, SendCause, UndoCause}
 use Rattle.model_site_law.specs.Chain.{Fresh, Numbered, store_after_all}
@@ -28,7 +28,7 @@ use Rattle.model_site_law.proofs.ReplayLemmas.{AllMayRun_from_runs, AllRun-fille
 use Rattle.model_site_law.proofs.RevertLemmas.{items_performed, items_reverted}
 use Rattle.model_site_law.proofs.ServeLemmas.{event_holds, start_holds}
 use Rattle.model_site_law.proofs.SessionLemmas.{every_get, every_put}
-use Rattle.model_site_law.proofs.SiteLemmas.{parted_is, pending_more}
+use Rattle.model_site_law.proofs.SiteLemmas.{parted_is, pending_more, with_redone}
 
 -- ---- numbers
 
@@ -70,10 +70,10 @@ module _ (base : Replica) where
   abbrev OnBase : Site → Type 0
   OnBase s = s.replica.items ≡ replay (flattened (parcels (pending s))) base.items
 
-  fresh_entry : (ts : List Transaction) (s : Site) → OnBase s → AllMayRun ts s.replica.items → Fresh base s → Fresh base (with_entry ts s)
-  fresh_entry ts s list may f =
+  fresh_entry : (taken : Option ℕ) (ts : List Transaction) (s : Site) → OnBase s → AllMayRun ts s.replica.items → Fresh base s → Fresh base (with_entry_against taken ts s)
+  fresh_entry taken ts s list may f =
       let now = s.replica.items in
-      let e = entry_of ts s.replica in
+      let e = entry_against taken ts s.replica in
       let old = flattened (parcels (pending s)) in
       let made : (all_performed ts s.replica).store ≡ store_after_all e.txs (replay old base.items) (store_after_all old base.items base.store) =
       store_performed ts s.replica ∙ sym (stored-filled ts now s.replica.store may)
@@ -179,12 +179,12 @@ module _ (w : Session) (h : SessionHolds w) (opens : AllIn w.base.store (cited w
       by_first : (us : List Parcel) → us ≡ m.site.undone → redo_first us m.site ≡ Ok next → Fresh w.base next
       by_first [] e done = cc
       by_first (ts ∷ us) e done =
-          let new : Site = record (with_entry ts m.site) { undone = us } in
+          let new : Site = with_redone ts us m.site in
           let same : new ≡ next = cc in
           let low : m.site.seen ≡ 0 = ap (λ (t : Site). t.seen) same ∙ z in
           let parts = AllRun-parts ts (flattened us) m.site.replica.items (subst (λ r. AllRun (flattened r) m.site.replica.items) (sym e) p.site.undone) in
-          let one = fresh_entry w.base ts m.site (on_it w.base w.committed m p low).list (AllMayRun_from_runs ts m.site.replica.items parts.0) (f low) in
-          same_fresh w.base (with_entry ts m.site) next (sym (ap (λ (t : Site). t.replica.store) same)) (sym (ap pending same)) one
+          let one = fresh_entry w.base (first_hint m.site.undone_hints) ts m.site (on_it w.base w.committed m p low).list (AllMayRun_from_runs ts m.site.replica.items parts.0) (f low) in
+          same_fresh w.base (with_entry_against (first_hint m.site.undone_hints) ts m.site) next (sym (ap (λ (t : Site). t.replica.store) same)) (sym (ap pending same)) one
 
   sent_fresh : (m : Member) → IfFresh w.base m → (r : Site × Submission) → send m.site ≡ Ok r → r.0.seen ≡ 0 → Fresh w.base r.0
   sent_fresh m f r done z = by_state m.site.in_flight m.site.unsent refl done
@@ -194,7 +194,7 @@ module _ (w : Session) (h : SessionHolds w) (opens : AllIn w.base.store (cited w
       by_state None [] u done = cc
       by_state None (e ∷ es) u done =
           let new : Site = record m.site { sent = m.site.sent ++ e ∷ es; unsent = []; shared = m.site.shared + length (e ∷ es); in_flight = Some (length (e ∷ es)) } in
-          let sub : Submission = record { base = m.site.seen; entries = parcels (e ∷ es) } in
+          let sub : Submission = record { base = m.site.seen; entries = parcels (e ∷ es); hints = hints (e ∷ es) } in
           let same : ◌≡◌ {A = Site × Submission} (new, sub) r = cc in
           let site : new ≡ r.0 = ap (λ (q : Site × Submission). q.0) same in
           same_fresh w.base m.site r.0 (sym (ap (λ (t : Site). t.replica.store) site))
@@ -207,7 +207,7 @@ module _ (w : Session) (h : SessionHolds w) (opens : AllIn w.base.store (cited w
       by_site : (o : Option Member) → slice_get w.members k ≡ o → After (at_member w o (λ m. with_site k m (with_entry ts m.site) w))
       by_site None e = all
       by_site (Some m) e = put_fresh w k (record m { site = with_entry ts m.site }) all (λ z.
-          fresh_entry w.base ts m.site (on_it w.base w.committed m (every_get _ w.members k m h.members e) z).list (may m e) (every_get (IfFresh w.base) w.members k m all e z))
+          fresh_entry w.base None ts m.site (on_it w.base w.committed m (every_get _ w.members k m h.members e) z).list (may m e) (every_get (IfFresh w.base) w.members k m all e z))
   event_fresh (Select k s) may = by_site (slice_get w.members k) refl
     where
       by_site : (o : Option Member) → slice_get w.members k ≡ o → After (at_member w o (λ m. with_site k m (with_selection s m.site) w))
@@ -242,16 +242,16 @@ module _ (w : Session) (h : SessionHolds w) (opens : AllIn w.base.store (cited w
       by_site : (o : Option Member) → slice_get w.members k ≡ o → After (at_member w o (λ m. with_site_of k m (redo m.site) w))
       by_site None e = all
       by_site (Some m) e = by_result m e (redo m.site) refl
-  event_fresh (Revoke k i) may = by_site (slice_get w.members k) refl
+  event_fresh (Revoke k i live) may = by_site (slice_get w.members k) refl
     where
       -- a site that may revoke has seen something, also after it
-      by_result : (m : Member) → i < m.site.seen → (r : Result (List Transaction) RangeConflict) → After (with_site_of k m (revoke_by r m.site) w)
-      by_result m below (Err clash) = all
-      by_result m below (Ok back) = put_fresh w k (record m { site = with_entry back m.site }) all (λ z. absurd (let none : ⊥ = omega arith in none))
+      by_result : (m : Member) → i < m.site.seen → (r : Result (List Transaction) RevokeCause) → After (with_site_of k m (revoke_by i r m.site) w)
+      by_result m below (Err cause) = all
+      by_result m below (Ok back) = put_fresh w k (record m { site = with_entry_against (Some i) back m.site }) all (λ z. absurd (let none : ⊥ = omega arith in none))
 
-      by_site : (o : Option Member) → slice_get w.members k ≡ o → After (at_member w o (λ m. with_site_of k m (revoke_entry w.committed i m.site) w))
+      by_site : (o : Option Member) → slice_get w.members k ≡ o → After (at_member w o (λ m. with_site_of k m (revoke_entry w.committed w.hints live i m.site) w))
       by_site None e = all
-      by_site (Some m) e = by_result m (may m e) (revoke (entries_of w.committed m.site) i)
+      by_site (Some m) e = by_result m (may m e) (revocation live (hinted_entries w.committed w.hints m.site) i)
   event_fresh (Send k) may = by_site (slice_get w.members k) refl
     where
       by_result : (m : Member) → slice_get w.members k ≡ Some m → (r : Result (Site × Submission) SendCause) → send m.site ≡ r → After (with_sent k m r w)

@@ -1,8 +1,8 @@
 -- A property of each item that is opened or inserted holds of each item of every list. Transactions
 -- that are undone, joined and taken back insert nothing else.
 use Rattle.std.specs.List.{AllByRecursion}
-use Rattle.std.proofs.Common.{◌≡◌, ℕ, zero, suc, ◌<◌, ◌==◌, Bool, true, false, if◌then◌else◌, List, [], ◌∷◌, ◌++◌, length, map, take, drop, replicate, slice_get, Option, Some, None, Result, Ok, Err, refl, sym, ap, ◌∙◌, subst, arith}
-use Rattle.std.proofs.lemmas.List.{append_assoc, append-nil, take-append-drop}
+use Rattle.std.proofs.Common.{◌≡◌, ℕ, zero, suc, ◌<◌, ◌==◌, Bool, true, false, if◌then◌else◌, List, [], ◌∷◌, ◌++◌, length, map, take, drop, replicate, slice_get, Option, Some, None, Result, Ok, Err, refl, sym, ap, ◌∙◌, subst, arith, option_map}
+use Rattle.std.proofs.lemmas.List.{append-nil, take-append-drop, drop-map, length-map}
 use Rattle.model_items.specs.declared.plain_item.PlainItem.{PlainItem}
 use Rattle.model_change.specs.Attributes.{AttrChange, change_back, item_changed}
 use Rattle.model_change.specs.Fault.{first_allows}
@@ -13,23 +13,26 @@ use Rattle.model_change.specs.Transaction.{Attribute, Replace, Retain, Transacti
 use Rattle.model_change.proofs.Fits.{Fits, parts_of_Applies}
 use Rattle.model_change_law.proofs.InsertedLemmas.{join_lists_insert_the_same}
 use Rattle.model_site.specs.Causes.{RedoCause, SendCause, UndoCause}
-use Rattle.model_site.specs.Entries.{Entry, Parcel, entry_of, parcels, reverted}
+use Rattle.model_site.specs.Entries.{Entry, Parcel, parcels, hints, entry_against}
 use Rattle.model_site.specs.Events.{Event, Perform, Redo, Revoke, Select, Send, Serve, Take, Tell, Undo, after_turn, at_member, happens, run, with_sent, with_site, with_site_of}
 use Rattle.model_site.specs.Joined.{join_entries, joined_first}
+use Rattle.model_site.specs.Live.{Hinted, RevokeCause, Standing, all_alike, all_standing, is_back, left_by, left_without, live_from, or_last, revocation, stand, unhinted, with_txs, without, without_hint}
 use Rattle.model_site.specs.Replica.{Replica, all_filled}
 use Rattle.model_site.specs.Session.{Ack, Foreign, Member, Session, SiteFeed, accepted_of, all_fed, feed_for, foreign_feed, joining, put_member, serve_first, started, take_first}
-use Rattle.model_site.specs.Site.{Site, Submission, entries_of, init_and_last, with_undone, pending, redo, redo_first, revoke_by, send, undo, undo_last, with_entry, with_selection, with_told}
+use Rattle.model_site.specs.Site.{Site, Submission, entries_of, init_and_last, with_undone, pending, redo, redo_first, revoke_by, send, undo, undo_last, with_entry, with_selection, with_told, with_entry_against, first_hint, hinted_entries}
 use Rattle.model_site.specs.Take.{parcel_entries, take_ack, take_entry, take_foreign}
 use Rattle.model_site_law.specs.ItemLaws.{AllInsert, AllPass, Inserts, ItemsKeep, SettingKeeps}
+use Rattle.model_site_law.specs.LiveLaws.{RunFrom, list_before, own_of}
 use Rattle.model_site_law.specs.MayHappen.{AllMayHappen, MayHappen}
 use Rattle.model_site_law.specs.Protocol.{Every, MemberHolds, SessionHolds}
 use Rattle.model_site_law.proofs.FreshLemmas.{inserted-filled}
 use Rattle.model_site_law.proofs.LawLemmas.{all_entries_run, base_stays, list_is_replay}
+use Rattle.model_site_law.proofs.LiveLemmas.{all_standing-more, all_standing-with, in_conflict-ok, joined_as_many, live_revoke_leaves_out, not_back, parted}
 use Rattle.model_site_law.proofs.MemberLemmas.{sends}
-use Rattle.model_site_law.proofs.ReplayLemmas.{parcels-append, parcels-drop, parcels-noted, parcels-take}
+use Rattle.model_site_law.proofs.ReplayLemmas.{parcels-append, parcels-drop, parcels-noted, parcels-take, flattened-at}
 use Rattle.model_site_law.proofs.ServeLemmas.{event_holds, start_holds}
 use Rattle.model_site_law.proofs.SessionLemmas.{every_get, every_put, seen_runs}
-use Rattle.model_site_law.proofs.SiteLemmas.{entries_run, parted_is, seen_within}
+use Rattle.model_site_law.proofs.SiteLemmas.{parted_is, with_redone, hinted_are, known_run}
 
 -- ---- all of a list
 
@@ -47,12 +50,6 @@ all-cut P n xs p = all-parts P (take n xs) (drop n xs) (subst (AllByRecursion P)
 runs-parts : (ts us : List Transaction) (items : List PlainItem) → AllRun (ts ++ us) items → AllRun ts items × AllRun us (replay ts items)
 runs-parts [] us items r = (tt, r)
 runs-parts (t ∷ ts) us items r = let p = runs-parts ts us (edited t items) r.1 in ((r.0, p.0), p.1)
-
--- the transactions before an entry, its own, and those after it
-flattened-at : (entries : List Parcel) (i : ℕ) → i < length entries → flattened entries ≡ made_before entries i ++ (entry_at entries i ++ made_after entries i)
-flattened-at [] i l = absurd (omega (arith, l))
-flattened-at (entry ∷ entries) zero l = refl
-flattened-at (entry ∷ entries) (suc i) l = ap (λ ts. entry ++ ts) (flattened-at entries i (omega (arith, l))) ∙ sym (append_assoc entry (made_before entries i) (entry_at entries i ++ made_after entries i))
 
 module _ (test : PlainItem → Bool) (keeps : SettingKeeps test) where
   abbrev pub P : PlainItem → Type 0
@@ -164,6 +161,90 @@ module _ (test : PlainItem → Bool) (keeps : SettingKeeps test) where
       mine later its (Ok joined) d i j e = let same : joined.1 ≡ back = cc in subst (AllInsert test) same (joined_insert later its joined d i j).1
       mine later its (Err clash) d i j e = cc
 
+  -- ---- what counts of entries, and an entry taken back
+
+  first_inserts : (committed mine : List Transaction) (joined : List Transaction × List Transaction) → join_list committed mine ≡ Ok joined → AllInsert test committed → AllInsert test joined.0
+  first_inserts committed mine joined e i =
+      from_lists joined.0 (subst (AllByRecursion All) (sym (join_lists_insert_the_same committed mine joined e).0) (to_lists committed i))
+
+  abbrev Counts : List Standing → Type 0
+  Counts standing = AllInsert test (all_standing standing)
+
+  last_counts : (s : Standing) (standing : List Standing) → Counts standing → AllInsert test s.txs → Counts (standing ++ s ∷ [])
+  last_counts s standing i j = subst (AllInsert test) (sym (all_standing-more standing s)) (all-append Ins (all_standing standing) s.txs i j)
+
+  left_counts : (back taken : List Transaction) (after left : List Standing) → Counts after → left_without back taken after ≡ Some left → Counts left
+  left_counts back taken after left i e = by_join (join_list (all_standing after) (reversal taken)) refl e
+    where
+      by_join : (r : Result (List Transaction × List Transaction) RangeConflict) → join_list (all_standing after) (reversal taken) ≡ r → left_by back r after ≡ Some left → Counts left
+      by_join (Err clash) d e = cc
+      by_join (Ok joined) d e = by_test (all_alike joined.1 back) e
+        where
+          by_test : (b : Bool) → (if b then Some (with_txs joined.0 after) else None) ≡ Some left → Counts left
+          by_test false e = cc
+          by_test true e =
+              let same : with_txs joined.0 after ≡ left = cc in
+              let all = all_standing-with joined.0 after (joined_as_many (all_standing after) (reversal taken) joined d) in
+              subst Counts same (subst (AllInsert test) (sym all) (first_inserts (all_standing after) (reversal taken) joined d i))
+
+  without_counts : (m : ℕ) (back : List Transaction) (standing left : List Standing) → Counts standing → without m back standing ≡ Some left → Counts left
+  without_counts m back [] left i e = cc
+  without_counts m back (s ∷ after) left i e = by_number (λ l d. without_counts m back after l parts.1 d) (s.number == m) e
+    where
+      Rest : Type 0
+      Rest = (l : List Standing) → without m back after ≡ Some l → Counts l
+
+      parts : AllInsert test s.txs × Counts after
+      parts = all-parts Ins s.txs (all_standing after) i
+
+      by_rest : Rest → (o : Option (List Standing)) → without m back after ≡ o → option_map (λ l. s ∷ l) o ≡ Some left → Counts left
+      by_rest all None d e = cc
+      by_rest all (Some l) d e = let same : s ∷ l ≡ left = cc in subst Counts same (all-append Ins s.txs (all_standing l) parts.0 (all l d))
+
+      by_number : Rest → (b : Bool) → (if b then left_without back s.txs after else option_map (λ l. s ∷ l) (without m back after)) ≡ Some left → Counts left
+      by_number all true e = left_counts back s.txs after left parts.1 e
+      by_number all false e = by_rest all (without m back after) refl e
+
+  stand_counts : (n : ℕ) (entry : Hinted) (standing : List Standing) → Counts standing → AllInsert test entry.txs → Counts (stand n entry standing)
+  stand_counts n entry standing i j = by_left (without_hint entry.takes_back entry.txs standing) (by_hint entry.takes_back)
+    where
+      by_hint : (o : Option ℕ) (left : List Standing) → without_hint o entry.txs standing ≡ Some left → Counts left
+      by_hint None left e = cc
+      by_hint (Some m) left e = without_counts m entry.txs standing left i e
+
+      by_left : (o : Option (List Standing)) → ((left : List Standing) → o ≡ Some left → Counts left) → Counts (or_last (record { number = n; txs = entry.txs }) standing o)
+      by_left None all = last_counts (record { number = n; txs = entry.txs }) standing i j
+      by_left (Some left) all = all left refl
+
+  live_counts : (i : ℕ) (own : List Transaction) (n : ℕ) (entries : List Hinted) (standing result : List Standing) → Counts standing → Entries (unhinted entries) →
+      live_from i own n entries standing ≡ Ok result → Counts result
+  live_counts i own n [] standing result c ins e = let same : standing ≡ result = cc in subst Counts same c
+  live_counts i own n (entry ∷ entries) standing result c ins e =
+      live_counts i own (suc n) entries (stand n entry standing) result (stand_counts n entry standing c ins.0) ins.1
+      (not_back (is_back i own entry standing) n (live_from i own (suc n) entries (stand n entry standing)) result e).1
+
+  revocation_inserts : (way : Bool) (entries : List Hinted) (i : ℕ) (back : List Transaction) (base : List PlainItem) → RunFrom entries i base → Entries (unhinted entries) → All base →
+      revocation way entries i ≡ Ok back → AllInsert test back
+  revocation_inserts false entries i back base r ins p e =
+      let long = length-map entries (λ (e : Hinted). e.txs) in
+      revoke_inserts (unhinted entries) i back base (let w = r.within in omega arith) r.runs (flat (unhinted entries) ins) p (in_conflict-ok (revoke (unhinted entries) i) back e)
+  revocation_inserts true entries i back base r ins p e =
+      let left = live_revoke_leaves_out entries i back base r e in
+      let own = own_of entries i in
+      let cut = all-cut (AllInsert test) (suc i) (unhinted entries) ins in
+      let later = subst Entries (drop-map (λ (e : Hinted). e.txs) (suc i) entries) cut.1 in
+      let counts = live_counts i own (suc i) (drop (suc i) entries) [] left.standing tt later left.counts in
+      let there = parted entries i base r in
+      let before = flat (take i (unhinted entries)) (all-cut (AllInsert test) i (unhinted entries) ins).0 in
+      let first = replay_all (made_before (unhinted entries) i) base there.first before p in
+      (joined_insert (all_standing left.standing) (reversal own) (left.without, back) left.joined counts
+      (reversal_inserts own (list_before entries i base) there.own (at_number (unhinted entries) i ins) first)).1
+    where
+      at_number : (ps : List Parcel) (n : ℕ) → Entries ps → AllInsert test (entry_at ps n)
+      at_number [] n ins = tt
+      at_number (q ∷ ps) zero ins = ins.0
+      at_number (q ∷ ps) (suc n) ins = at_number ps n ins.1
+
   -- ---- sites and their queues
 
   abbrev Feeds : SiteFeed → Type 0
@@ -190,10 +271,10 @@ module _ (test : PlainItem → Bool) (keeps : SettingKeeps test) where
   known_insert : (committed : List Parcel) (s : Site) → Entries committed → Sites s → Entries (entries_of committed s)
   known_insert committed s c h = all-append (AllInsert test) (take s.seen committed) (parcels (pending s)) (all-cut (AllInsert test) s.seen committed c).0 (pending_insert s h)
 
-  with_entry_inserts : (ts : List Transaction) (s : Site) → AllInsert test ts → Sites s → Sites (with_entry ts s)
-  with_entry_inserts ts s i h = record {
+  with_entry_inserts : (taken : Option ℕ) (ts : List Transaction) (s : Site) → AllInsert test ts → Sites s → Sites (with_entry_against taken ts s)
+  with_entry_inserts taken ts s i h = record {
     sent = h.sent;
-    unsent = subst Entries (sym (parcels-append s.unsent (entry_of ts s.replica ∷ []))) (all-append (AllInsert test) (parcels s.unsent) (parcels (entry_of ts s.replica ∷ [])) h.unsent (filled_insert ts s.replica.items i, tt));
+    unsent = subst Entries (sym (parcels-append s.unsent (entry_against taken ts s.replica ∷ []))) (all-append (AllInsert test) (parcels s.unsent) (parcels (entry_against taken ts s.replica ∷ [])) h.unsent (filled_insert ts s.replica.items i, tt));
     undone = tt;
   }
 
@@ -215,17 +296,18 @@ module _ (test : PlainItem → Bool) (keeps : SettingKeeps test) where
       by_first : (us : List Parcel) → us ≡ s.undone → redo_first us s ≡ Ok next → Sites next
       by_first [] e done = cc
       by_first (ts ∷ us) e done =
-          let same : record (with_entry ts s) { undone = us } ≡ next = cc in
+          let same : with_redone ts us s ≡ next = cc in
           let parts : AllInsert test ts × Entries us = subst Entries (sym e) h.undone in
-          let new = with_entry_inserts ts s parts.0 h in
+          let new = with_entry_inserts (first_hint s.undone_hints) ts s parts.0 h in
           subst Sites same (record { sent = new.sent; unsent = new.unsent; undone = parts.1 })
 
   take_entry_inserts : (foreign : Parcel) (s : Site) → AllInsert test foreign → Sites s → Sites (take_entry foreign s)
   take_entry_inserts foreign s i h =
       let new = take_entry foreign s in
       let kept = (join_entries foreign (parcels (pending s))).kept in
-      let all = parcel_entries (length new.replica.store) kept in
-      let inserts : Entries (parcels all) = subst Entries (sym (parcels-noted (length new.replica.store) kept)) (kept_insert foreign (parcels (pending s)) i (pending_insert s h)) in
+      let taken = hints (pending s) in
+      let all = parcel_entries (length new.replica.store) taken kept in
+      let inserts : Entries (parcels all) = subst Entries (sym (parcels-noted (length new.replica.store) taken kept)) (kept_insert foreign (parcels (pending s)) i (pending_insert s h)) in
       let cut = all-cut (AllInsert test) (length s.sent) (parcels all) inserts in
       record {
         sent = subst Entries (sym (parcels-take (length s.sent) all)) cut.0;
@@ -270,17 +352,17 @@ module _ (test : PlainItem → Bool) (keeps : SettingKeeps test) where
     redo_by k m e (Err f) d = h
     redo_by k m e (Ok s) d = put_site w k m s h (here k m e) (redo_inserts m.site s d (here k m e).site)
 
-    revoke_of : (k i : ℕ) (m : Member) → slice_get w.members k ≡ Some m → i < m.site.seen → (r : Result (List Transaction) RangeConflict) → revoke (entries_of w.committed m.site) i ≡ r →
-        InSession (with_site_of k m (revoke_by r m.site) w)
-    revoke_of k i m e below (Err clash) d = h
-    revoke_of k i m e below (Ok back) d =
+    revoke_of : (k i : ℕ) (live : Bool) (m : Member) → slice_get w.members k ≡ Some m → i < m.site.seen → (r : Result (List Transaction) RevokeCause) →
+        revocation live (hinted_entries w.committed w.hints m.site) i ≡ r → InSession (with_site_of k m (revoke_by i r m.site) w)
+    revoke_of k i live m e below (Err cause) d = h
+    revoke_of k i live m e below (Ok back) d =
         let p = every_get (MemberHolds w.base.items w.committed) w.members k m holds.members e in
         let inside = here k m e in
-        let within = seen_within w.base.items p.before p.rest w.committed m.site p.split p.site in
-        let runs = entries_run w.base.items p.before p.rest w.committed m.site p.split (seen_runs w.base.items w.committed m holds.committed p) p.site in
-        let known = flat (entries_of w.committed m.site) (known_insert w.committed m.site h.committed inside.site) in
-        let inserts = revoke_inserts (entries_of w.committed m.site) i back w.base.items (omega arith) runs known base d in
-        put_site w k m (with_entry back m.site) h inside (with_entry_inserts back m.site inserts inside.site)
+        let known = hinted_entries w.committed w.hints m.site in
+        let runs = known_run w.base.items p.before p.rest w.committed w.hints i m.site holds.sound (seen_runs w.base.items w.committed m holds.committed p) p.split p.site below in
+        let inserted = subst Entries (sym (hinted_are w.committed w.hints m.site)) (known_insert w.committed m.site h.committed inside.site) in
+        let inserts = revocation_inserts live known i back w.base.items runs inserted base d in
+        put_site w k m (with_entry_against (Some i) back m.site) h inside (with_entry_inserts (Some i) back m.site inserts inside.site)
 
     send_by : (k : ℕ) (m : Member) → slice_get w.members k ≡ Some m → (r : Result (Site × Submission) SendCause) → send m.site ≡ r → InSession (with_sent k m r w)
     send_by k m e (Err f) d = h
@@ -337,14 +419,15 @@ module _ (test : PlainItem → Bool) (keeps : SettingKeeps test) where
     at_by (Some m) k f e all = all m e
 
     event_inserts : (e : Event) → MayHappen w e → Inserts test e → InSession (happens w e)
-    event_inserts (Perform k ts) may i = at_by (slice_get w.members k) k _ refl (λ m e. put_site w k m (with_entry ts m.site) h (here k m e) (with_entry_inserts ts m.site i (here k m e).site))
+    event_inserts (Perform k ts) may i = at_by (slice_get w.members k) k _ refl (λ m e. put_site w k m (with_entry ts m.site) h (here k m e) (with_entry_inserts None ts m.site i (here k m e).site))
     event_inserts (Select k s) may i =
         at_by (slice_get w.members k) k _ refl (λ m e. put_site w k m (with_selection s m.site) h (here k m e) (record { sent = (here k m e).site.sent; unsent = (here k m e).site.unsent; undone = (here k m e).site.undone }))
     event_inserts (Tell k) may i =
         at_by (slice_get w.members k) k _ refl (λ m e. put_site w k m (with_told m.site) h (here k m e) (record { sent = (here k m e).site.sent; unsent = (here k m e).site.unsent; undone = (here k m e).site.undone }))
     event_inserts (Undo k) may i = at_by (slice_get w.members k) k _ refl (λ m e. undo_by k m e (undo m.site) refl)
     event_inserts (Redo k) may i = at_by (slice_get w.members k) k _ refl (λ m e. redo_by k m e (redo m.site) refl)
-    event_inserts (Revoke k n) may i = at_by (slice_get w.members k) k _ refl (λ m e. revoke_of k n m e (may m e) (revoke (entries_of w.committed m.site) n) refl)
+    event_inserts (Revoke k n live) may i =
+        at_by (slice_get w.members k) k _ refl (λ m e. revoke_of k n live m e (may m e) (revocation live (hinted_entries w.committed w.hints m.site) n) refl)
     event_inserts (Send k) may i = at_by (slice_get w.members k) k _ refl (λ m e. send_by k m e (send m.site) refl)
     event_inserts (Serve k) may i = at_by (slice_get w.members k) k _ refl (λ m e. serve_by k m e m.submissions refl)
     event_inserts (Take k) may i = at_by (slice_get w.members k) k _ refl (λ m e. take_by k m e m.feeds refl)

@@ -1,11 +1,14 @@
 pub mod ReplayLemmas
 pub mod RevertLemmas
+pub mod LiveLemmas
 pub mod JoinedLemmas
 pub mod UntilConflictLemmas
 pub mod StoreLemmas
 pub mod PerformLemmas
 pub mod NeedLemmas
 pub mod AcceptLemmas
+pub mod BackLemmas
+pub mod StepLemmas
 pub mod ChainLemmas
 pub mod SiteLemmas
 pub mod MemberLemmas

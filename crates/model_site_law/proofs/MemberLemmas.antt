@@ -4,7 +4,7 @@ use Rattle.std.proofs.lemmas.List.{append_assoc, append-nil, length-append}
 use Rattle.model_items.specs.declared.plain_item.PlainItem.{PlainItem}
 use Rattle.model_change.specs.Replay.{AllRun, flattened, replay}
 use Rattle.model_change.specs.Store.{cited}
-use Rattle.model_site.specs.Entries.{Entry, Parcel, parcels}
+use Rattle.model_site.specs.Entries.{Entry, Parcel, hints, parcels}
 use Rattle.model_site.specs.Joined.{join_entries}
 use Rattle.model_site.specs.Replica.{Replica}
 use Rattle.model_site.specs.Session.{Ack, SiteFeed, Foreign, Member}
@@ -81,7 +81,7 @@ sent_after : (p : Parcel) (s : Site) → parcels (take_entry p s).sent ≡ (join
 sent_after p s =
     let j = join_entries p (parcels (pending s)) in
     let n = length (take_entry p s).replica.store in
-    parcels-take (length s.sent) (parcel_entries n j.kept) ∙ ap (take (length s.sent)) (parcels-noted n j.kept)
+    parcels-take (length s.sent) (parcel_entries n (hints (pending s)) j.kept) ∙ ap (take (length s.sent)) (parcels-noted n (hints (pending s)) j.kept)
     ∙ ap (λ r. take (length s.sent) (join_entries p r).kept) (parcels-append s.sent s.unsent)
     ∙ ap (λ r. take r (join_entries p (parcels s.sent ++ parcels s.unsent)).kept) (sym (length-parcels s.sent))
     ∙ first_part p (parcels s.sent) (parcels s.unsent)
@@ -236,7 +236,7 @@ sends s r done = by_state s.in_flight s.unsent refl refl done
     by_state None [] f u done = cc
     by_state None (e ∷ es) f u done =
         let new : Site = record s { sent = s.sent ++ e ∷ es; unsent = []; shared = s.shared + length (e ∷ es); in_flight = Some (length (e ∷ es)) } in
-        let sub : Submission = record { base = s.seen; entries = parcels (e ∷ es) } in
+        let sub : Submission = record { base = s.seen; entries = parcels (e ∷ es); hints = hints (e ∷ es) } in
         let same : ◌≡◌ {A = Site × Submission} (new, sub) r = cc in
         subst (Sends s) same (record {
           idle = sym f;

@@ -1,11 +1,10 @@
 -- Less waits after each turn; and where nothing waits, sites have seen all that is committed.
-use Rattle.std.proofs.Common.{◌≡◌, ◌≤◌, ◌<◌, ℕ, zero, suc, ◌+◌, Bool, true, false, ◌==◌, if◌then◌else◌, List, [], ◌∷◌, ◌++◌, length, slice_get, Option, Some, None, refl, sym, ap, ◌∙◌, subst, append-nil, arith}
+use Rattle.std.proofs.Common.{◌≡◌, ◌≤◌, ◌<◌, ℕ, zero, suc, ◌+◌, Bool, true, false, ◌==◌, if◌then◌else◌, List, [], ◌∷◌, ◌++◌, length, slice_get, Some, sym, ap, ◌∙◌, subst, append-nil, arith}
 use Rattle.std.proofs.lemmas.List.{length-append}
 use Rattle.model_items.specs.declared.plain_item.PlainItem.{PlainItem}
 use Rattle.model_site.specs.Entries.{Parcel, parcels}
-use Rattle.model_site.specs.Events.{Event, Serve, Take, after_turn, at_member, happens, run}
-use Rattle.model_site.specs.Session.{Ack, SiteFeed, Foreign, Member, Session, accepted_of, all_fed, feed_for, foreign_feed, put_member, serve_first, serve_next, site_after, started, take_first, take_next}
-use Rattle.model_site.specs.Site.{Submission}
+use Rattle.model_site.specs.Events.{after_turn, at_member, run}
+use Rattle.model_site.specs.Session.{Ack, SiteFeed, Member, Session, accepted_of, all_fed, feed_for, foreign_feed, put_member, serve_first, serve_next, site_after, started, take_first, take_next}
 use Rattle.model_site_law.specs.Protocol.{InStep, MemberHolds}
 use Rattle.model_site_law.specs.QuietLaws.{QuietSitesMeet, ServingLowers, TakingLowers, counted, waiting, waiting_among, waiting_at}
 use Rattle.model_site_law.proofs.CountLemmas.{length-fed, length-put}

@@ -4,11 +4,11 @@ use Rattle.std.proofs.lemmas.List.{append_assoc, append-nil}
 use Rattle.model_change.specs.Replay.{AllRun, flattened, replay}
 use Rattle.model_change.specs.Store.{cited}
 use Rattle.model_change.specs.Transaction.{Transaction}
-use Rattle.model_site.specs.Entries.{Entry, Parcel, entry_of, parcels, reverted}
+use Rattle.model_site.specs.Entries.{Entry, Parcel, parcels, entry_against}
 use Rattle.model_site.specs.Events.{Event, Redo, Undo, at_member, happens, run, with_site_of}
 use Rattle.model_site.specs.Replica.{Replica, all_filled}
 use Rattle.model_site.specs.Session.{Member, Session, put_member, started}
-use Rattle.model_site.specs.Site.{Site, init_and_last, with_undone, pending, redo, redo_first, undo, undo_last, with_entry}
+use Rattle.model_site.specs.Site.{Site, init_and_last, with_undone, pending, redo, redo_first, undo, undo_last, first_hint}
 use Rattle.model_site.specs.Causes.{RedoCause, UndoCause}
 use Rattle.model_site_law.specs.Chain.{Fresh, store_after_all}
 use Rattle.model_site_law.specs.Laws.{RedoneIsAsBefore, turns}
@@ -21,7 +21,7 @@ use Rattle.model_site_law.proofs.LawLemmas.{base_stays}
 use Rattle.model_site_law.proofs.ReplayLemmas.{AllMayRun_from_runs, AllRun-parts, replay-append, replay-filled}
 use Rattle.model_site_law.proofs.ServeLemmas.{event_holds, run_holds, start_holds}
 use Rattle.model_site_law.proofs.SessionLemmas.{every_get}
-use Rattle.model_site_law.proofs.SiteLemmas.{parted_is, pending_more}
+use Rattle.model_site_law.proofs.SiteLemmas.{parted_is, pending_more, with_redone}
 
 -- all that a site did and may do again
 abbrev whole : Site → List Transaction
@@ -61,7 +61,7 @@ redo_alike base s t list runs done = by_first s.undone refl done
     by_first : (us : List Parcel) → us ≡ s.undone → redo_first us s ≡ Ok t → Alike base s t
     by_first [] e done = cc
     by_first (ts ∷ us) e done =
-        let new : Site = record (with_entry ts s) { undone = us } in
+        let new : Site = with_redone ts us s in
         let same : new ≡ t = cc in
         let now = s.replica.items in
         let old = flattened (parcels (pending s)) in
@@ -71,7 +71,7 @@ redo_alike base s t list runs done = by_first s.undone refl done
         let full = all_filled ts now in
         let parts = AllRun-parts ts rest now (subst (λ r. AllRun (flattened r) now) (sym e) runs) in
         let may = AllMayRun_from_runs ts now parts.0 in
-        let new_is : whole new ≡ old ++ (full ++ rest) = ap (λ r. r ++ rest) (pending_more s.sent s.unsent (entry_of ts s.replica)) ∙ append_assoc old full rest in
+        let new_is : whole new ≡ old ++ (full ++ rest) = ap (λ r. r ++ rest) (pending_more s.sent s.unsent (entry_against (first_hint s.undone_hints) ts s.replica)) ∙ append_assoc old full rest in
         let old_is : old ++ (ts ++ rest) ≡ whole s = ap (λ r. old ++ flattened r) e in
         let list_same : replay full floor ≡ replay ts floor = ap (replay full) (sym list) ∙ replay-filled ts now may ∙ ap (replay ts) list in
         let store_same : store_after_all full floor first ≡ store_after_all ts floor first =

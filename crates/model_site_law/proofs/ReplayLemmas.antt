@@ -1,12 +1,12 @@
 -- Replays of lists of transactions, one part after the other.
-use Rattle.std.proofs.Common.{◌≡◌, ℕ, zero, suc, List, [], ◌∷◌, ◌++◌, take, drop, refl, sym, ap, ◌∙◌, subst}
+use Rattle.std.proofs.Common.{◌≡◌, ◌<◌, ℕ, zero, suc, List, [], ◌∷◌, ◌++◌, length, take, drop, refl, sym, ap, ◌∙◌, subst, append_assoc, arith}
 use Rattle.model_items.specs.Law.{Lawful}
 use Rattle.model_items.specs.declared.plain_item.PlainItem.{PlainItem}
 use Rattle.model_change.specs.Inverse.{filled}
-use Rattle.model_change.specs.Replay.{AllRun, flattened, replay}
+use Rattle.model_change.specs.Replay.{AllRun, entry_at, flattened, made_after, made_before, replay}
 use Rattle.model_change.specs.Transaction.{Attribute, InsertedApart, Replace, Retain, Transaction, all_inserted, all_removed}
 use Rattle.model_change.proofs.FilledLemmas.{filling_is_neutral, names_stay_apart}
-use Rattle.model_site.specs.Entries.{Entry, Parcel, parcels}
+use Rattle.model_site.specs.Entries.{Entry, Hints, Parcel, parcels}
 use Rattle.model_site.specs.Replica.{all_filled}
 use Rattle.model_site.specs.Take.{parcel_entries}
 use Rattle.model_site_law.specs.Sound.{AllMayRun, Sound}
@@ -70,6 +70,12 @@ flattened-append (p ∷ ps) qs = ap (λ r. p ++ r) (flattened-append ps qs) ∙ 
     assoc [] ys zs = refl
     assoc (x ∷ xs) ys zs = ap (λ r. x ∷ r) (assoc xs ys zs)
 
+-- the transactions before an entry, its own, and those after it
+pub flattened-at : (entries : List Parcel) (i : ℕ) → i < length entries → flattened entries ≡ made_before entries i ++ (entry_at entries i ++ made_after entries i)
+flattened-at [] i l = absurd (omega (arith, l))
+flattened-at (entry ∷ entries) zero l = refl
+flattened-at (entry ∷ entries) (suc i) l = ap (λ ts. entry ++ ts) (flattened-at entries i (omega (arith, l))) ∙ sym (append_assoc entry (made_before entries i) (entry_at entries i ++ made_after entries i))
+
 pub parcels-append : (es fs : List Entry) → parcels (es ++ fs) ≡ parcels es ++ parcels fs
 parcels-append [] fs = refl
 parcels-append (e ∷ es) fs = ap (λ r. e.txs ∷ r) (parcels-append es fs)
@@ -84,6 +90,6 @@ parcels-take zero es = refl
 parcels-take (suc n) [] = refl
 parcels-take (suc n) (e ∷ es) = ap (λ r. e.txs ∷ r) (parcels-take n es)
 
-pub parcels-noted : (n : ℕ) (ps : List Parcel) → parcels (parcel_entries n ps) ≡ ps
-parcels-noted n [] = refl
-parcels-noted n (p ∷ ps) = ap (λ r. p ∷ r) (parcels-noted n ps)
+pub parcels-noted : (n : ℕ) (taken : Hints) (ps : List Parcel) → parcels (parcel_entries n taken ps) ≡ ps
+parcels-noted n taken [] = refl
+parcels-noted n taken (p ∷ ps) = ap (λ r. p ∷ r) (parcels-noted n (drop 1 taken) ps)

@@ -14,7 +14,7 @@ use Rattle.model_site.specs.Events.{Event, Select, happens}
 use Rattle.model_site.specs.Joined.{join_entries}
 use Rattle.model_site.specs.Replica.{Replica, all_performed, all_put_back, changed_by, performed, put_back}
 use Rattle.model_site.specs.Session.{Member, Session, all_fed}
-use Rattle.model_site.specs.Site.{Site, Submission, init_and_last, with_undone, pending, redo, redo_first, send, undo, undo_last, with_entry, with_selection}
+use Rattle.model_site.specs.Site.{Site, Submission, init_and_last, with_undone, pending, redo, redo_first, send, undo, undo_last, with_selection}
 use Rattle.model_site.specs.Take.{take_entry, take_foreign}
 use Rattle.model_site_law.specs.Holds.{Holds, ground}
 use Rattle.model_site_law.specs.Protocol.{Every}
@@ -23,7 +23,7 @@ use Rattle.model_site_law.proofs.JoinedLemmas.{entries_join}
 use Rattle.model_site_law.proofs.MemberLemmas.{sends}
 use Rattle.model_site_law.proofs.ReplayLemmas.{AllMayRun_from_runs, AllRun-parts, flattened-append, parcels-drop, replay-append, sound_after}
 use Rattle.model_site_law.proofs.RevertLemmas.{items_all_reverted}
-use Rattle.model_site_law.proofs.SiteLemmas.{foreign_holds, parted_is, pending_more}
+use Rattle.model_site_law.proofs.SiteLemmas.{foreign_holds, parted_is, pending_more, with_redone}
 
 -- what of a replica is kept
 pub record IsKept (P : Replica → Type 0) : Type 0 where
@@ -133,7 +133,7 @@ module _ (P : Replica → Type 0) (is_kept : IsKept P) where
       by_first [] e done = cc
       by_first (ts ∷ us) e done =
           let parts = AllRun-parts ts (flattened us) s.replica.items (subst (λ r. AllRun (flattened r) s.replica.items) (sym e) h.undone) in
-          let same : record (with_entry ts s) { undone = us } ≡ next = cc in
+          let same : with_redone ts us s ≡ next = cc in
           subst P (ap (λ (t : Site). t.replica) same) (performed_keep ts s.replica (AllMayRun_from_runs ts s.replica.items parts.0) p)
 
   pub send_keep : (s : Site) (r : Site × Submission) → send s ≡ Ok r → P s.replica → P r.0.replica

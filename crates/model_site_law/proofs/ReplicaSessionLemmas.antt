@@ -1,13 +1,12 @@
 -- A property that each change of a replica and each cut of its store keeps, holds of every site,
 -- whatever happened.
 use Rattle.std.proofs.Common.{◌≡◌, ◌<◌, ℕ, zero, suc, List, [], ◌∷◌, ◌++◌, replicate, slice_get, Option, Some, None, Result, Ok, Err, refl}
-use Rattle.model_change.specs.Join.{RangeConflict}
-use Rattle.model_change.specs.Replay.{revoke}
 use Rattle.model_change.specs.Transaction.{Transaction}
 use Rattle.model_site.specs.Events.{Event, Perform, Redo, Revoke, Select, Send, Serve, Take, Tell, Undo, after_turn, at_member, happens, run, with_sent, with_site, with_site_of}
+use Rattle.model_site.specs.Live.{RevokeCause, revocation}
 use Rattle.model_site.specs.Replica.{Replica}
 use Rattle.model_site.specs.Session.{Ack, SiteFeed, Foreign, Member, Session, joining, put_member, serve_first, serve_next, started, take_first, take_next}
-use Rattle.model_site.specs.Site.{Site, Submission, entries_of, redo, revoke_by, revoke_entry, send, undo, with_entry, with_selection, with_told}
+use Rattle.model_site.specs.Site.{Site, Submission, redo, revoke_by, revoke_entry, send, undo, with_entry, with_selection, with_told, with_entry_against, hinted_entries}
 use Rattle.model_site.specs.Take.{take_ack, take_foreign}
 use Rattle.model_site.specs.Causes.{RedoCause, SendCause, UndoCause}
 use Rattle.model_site_law.specs.MayHappen.{AllMayHappen, MayHappen}
@@ -71,20 +70,21 @@ module _ (P : Replica → Type 0) (is_kept : IsKept P) (w : Session) (h : Sessio
       by_site : (o : Option Member) → slice_get w.members k ≡ o → Kept (at_member w o (λ m. with_site_of k m (redo m.site) w))
       by_site None e = all
       by_site (Some m) e = by_result m e (redo m.site) refl
-  event_keeps (Revoke k i) may keeps = by_site (slice_get w.members k) refl
+  event_keeps (Revoke k i live) may keeps = by_site (slice_get w.members k) refl
     where
-      by_result : (m : Member) → slice_get w.members k ≡ Some m → i < m.site.seen → (r : Result (List Transaction) RangeConflict) → revoke (entries_of w.committed m.site) i ≡ r →
-          Kept (with_site_of k m (revoke_by r m.site) w)
-      by_result m e below (Err clash) d = all
+      by_result : (m : Member) → slice_get w.members k ≡ Some m → i < m.site.seen → (r : Result (List Transaction) RevokeCause) →
+          revocation live (hinted_entries w.committed w.hints m.site) i ≡ r →
+          Kept (with_site_of k m (revoke_by i r m.site) w)
+      by_result m e below (Err cause) d = all
       by_result m e below (Ok back) d =
           let p = holds_here k m e in
-          put k (record m { site = with_entry back m.site })
+          put k (record m { site = with_entry_against (Some i) back m.site })
           (performed_keep P is_kept back m.site.replica
-          (revoked_may w.base.items p.before p.rest w.committed i m.site back h.sound (seen_runs w.base.items w.committed m h.committed p) p.split p.site below d) (here k m e))
+          (revoked_may w.base.items p.before p.rest w.committed w.hints live i m.site back h.sound (seen_runs w.base.items w.committed m h.committed p) p.split p.site below d) (here k m e))
 
-      by_site : (o : Option Member) → slice_get w.members k ≡ o → Kept (at_member w o (λ m. with_site_of k m (revoke_entry w.committed i m.site) w))
+      by_site : (o : Option Member) → slice_get w.members k ≡ o → Kept (at_member w o (λ m. with_site_of k m (revoke_entry w.committed w.hints live i m.site) w))
       by_site None e = all
-      by_site (Some m) e = by_result m e (may m e) (revoke (entries_of w.committed m.site) i) refl
+      by_site (Some m) e = by_result m e (may m e) (revocation live (hinted_entries w.committed w.hints m.site) i) refl
   event_keeps (Send k) may keeps = by_site (slice_get w.members k) refl
     where
       by_result : (m : Member) → slice_get w.members k ≡ Some m → (r : Result (Site × Submission) SendCause) → send m.site ≡ r → Kept (with_sent k m r w)

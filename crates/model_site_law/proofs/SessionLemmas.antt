@@ -1,14 +1,14 @@
 -- The invariant of sites and server together is kept by each event.
-use Rattle.std.proofs.Common.{◌≡◌, ℕ, zero, suc, List, [], ◌∷◌, ◌++◌, slice_get, Option, Some, None, Result, Ok, Err, ◌<◌, refl, sym, ap, ◌∙◌, subst}
+use Rattle.std.proofs.Common.{◌≡◌, ℕ, zero, suc, List, [], ◌∷◌, ◌++◌, slice_get, Bool, Option, Some, None, Result, Ok, Err, ◌<◌, refl, sym, ap, ◌∙◌, subst}
 use Rattle.model_items.specs.declared.plain_item.PlainItem.{PlainItem}
-use Rattle.model_change.specs.Join.{RangeConflict}
-use Rattle.model_change.specs.Replay.{AllRun, flattened, revoke}
+use Rattle.model_change.specs.Replay.{AllRun, flattened}
 use Rattle.model_change.specs.Transaction.{Transaction}
 use Rattle.model_edit.specs.declared.selection.Selection.{Selection}
-use Rattle.model_site.specs.Entries.{Entry, Parcel, parcels, reverted}
+use Rattle.model_site.specs.Entries.{Entry, Hints, Parcel, parcels}
 use Rattle.model_site.specs.Events.{Perform, Redo, Revoke, Select, Send, Take, Tell, Undo, after_turn, at_member, happens, with_sent, with_site, with_site_of}
+use Rattle.model_site.specs.Live.{RevokeCause, revocation}
 use Rattle.model_site.specs.Session.{Ack, SiteFeed, Foreign, Member, Session, put_member, take_first, take_next, with_member}
-use Rattle.model_site.specs.Site.{Site, Submission, entries_of, init_and_last, with_undone, redo, redo_first, revoke_by, revoke_entry, send, undo, undo_last, with_entry, with_selection, with_told}
+use Rattle.model_site.specs.Site.{Site, Submission, hinted_entries, init_and_last, with_undone, redo, redo_first, revoke_by, revoke_entry, send, undo, undo_last, with_entry, with_entry_against, with_selection, with_told}
 use Rattle.model_site.specs.Causes.{RedoCause, SendCause, UndoCause}
 use Rattle.model_site_law.specs.Holds.{Holds, ground}
 use Rattle.model_site_law.specs.MayHappen.{MayHappen}
@@ -16,7 +16,7 @@ use Rattle.model_site_law.specs.Protocol.{Answered, AtRest, Every, InStep, Membe
 use Rattle.model_site_law.specs.Sound.{Sound}
 use Rattle.model_site_law.proofs.MemberLemmas.{ack_holds, foreign_feed_holds, send_holds}
 use Rattle.model_site_law.proofs.ReplayLemmas.{AllRun-parts, flattened-append, sound_after}
-use Rattle.model_site_law.proofs.SiteLemmas.{edit_holds, redo_holds, revoke_holds, undo_holds}
+use Rattle.model_site_law.proofs.SiteLemmas.{edit_holds, redo_holds, revoke_holds, undo_holds, with_redone}
 
 -- ---- members by their numbers
 
@@ -79,7 +79,7 @@ redo_keeps s next done = by_first s.undone done
     by_first : (us : List Parcel) → redo_first us s ≡ Ok next → (next.in_flight ≡ s.in_flight) × (next.sent ≡ s.sent)
     by_first [] done = cc
     by_first (ts ∷ us) done =
-        let e : record (with_entry ts s) { undone = us } ≡ next = cc in
+        let e : with_redone ts us s ≡ next = cc in
         (sym (ap (λ (t : Site). t.in_flight) e), sym (ap (λ (t : Site). t.sent) e))
 
 pub edit_in : (w : Session) (k : ℕ) (ts : List Transaction) → SessionHolds w → MayHappen w (Perform k ts) → SessionHolds (happens w (Perform k ts))
@@ -90,7 +90,7 @@ edit_in w k ts h may = by_site (slice_get w.members k) refl
     by_site (Some m) e =
         let p = every_get _ w.members k m h.members e in
         put_holds w k (record m { site = with_entry ts m.site }) h
-        (with_same w.base.items w.committed m (with_entry ts m.site) p (edit_holds w.base.items p.before ts m.site p.site (may m e)) refl refl)
+        (with_same w.base.items w.committed m (with_entry ts m.site) p (edit_holds w.base.items p.before None ts m.site p.site (may m e)) refl refl)
 
 pub select_in : (w : Session) (k : ℕ) (s : Selection) → SessionHolds w → SessionHolds (happens w (Select k s))
 select_in w k s h = by_site (slice_get w.members k) refl
@@ -145,29 +145,30 @@ redo_in w k h = by_site (slice_get w.members k) refl
     by_site None e = h
     by_site (Some m) e = by_result m (every_get _ w.members k m h.members e) (redo m.site) refl
 
-revoke_keeps : (committed : List Parcel) (i : ℕ) (s next : Site) → revoke_entry committed i s ≡ Ok next → (next.in_flight ≡ s.in_flight) × (next.sent ≡ s.sent)
-revoke_keeps committed i s next done = by_result (revoke (entries_of committed s) i) done
+revoke_keeps : (committed : List Parcel) (hints : Hints) (live : Bool) (i : ℕ) (s next : Site) → revoke_entry committed hints live i s ≡ Ok next →
+    (next.in_flight ≡ s.in_flight) × (next.sent ≡ s.sent)
+revoke_keeps committed hints live i s next done = by_result (revocation live (hinted_entries committed hints s) i) done
   where
-    by_result : (r : Result (List Transaction) RangeConflict) → revoke_by r s ≡ Ok next → (next.in_flight ≡ s.in_flight) × (next.sent ≡ s.sent)
-    by_result (Err clash) done = cc
+    by_result : (r : Result (List Transaction) RevokeCause) → revoke_by i r s ≡ Ok next → (next.in_flight ≡ s.in_flight) × (next.sent ≡ s.sent)
+    by_result (Err cause) done = cc
     by_result (Ok back) done =
-        let e : with_entry back s ≡ next = cc in
+        let e : with_entry_against (Some i) back s ≡ next = cc in
         (sym (ap (λ (t : Site). t.in_flight) e), sym (ap (λ (t : Site). t.sent) e))
 
-pub revoke_in : (w : Session) (k i : ℕ) → SessionHolds w → MayHappen w (Revoke k i) → SessionHolds (happens w (Revoke k i))
-revoke_in w k i h may = by_site (slice_get w.members k) refl
+pub revoke_in : (w : Session) (k i : ℕ) (live : Bool) → SessionHolds w → MayHappen w (Revoke k i live) → SessionHolds (happens w (Revoke k i live))
+revoke_in w k i live h may = by_site (slice_get w.members k) refl
   where
-    by_result : (m : Member) → MemberHolds w.base.items w.committed m → i < m.site.seen → (r : Result Site RangeConflict) → revoke_entry w.committed i m.site ≡ r →
+    by_result : (m : Member) → MemberHolds w.base.items w.committed m → i < m.site.seen → (r : Result Site RevokeCause) → revoke_entry w.committed w.hints live i m.site ≡ r →
         SessionHolds (with_site_of k m r w)
-    by_result m p below (Err clash) e = h
+    by_result m p below (Err cause) e = h
     by_result m p below (Ok site) e =
-        let same = revoke_keeps w.committed i m.site site e in
+        let same = revoke_keeps w.committed w.hints live i m.site site e in
         put_holds w k (record m { site = site }) h (with_same w.base.items w.committed m site p
-        (revoke_holds w.base.items p.before p.rest w.committed i m.site site h.sound (seen_runs w.base.items w.committed m h.committed p) p.split p.site below e) same.0 same.1)
+        (revoke_holds w.base.items p.before p.rest w.committed w.hints live i m.site site h.sound (seen_runs w.base.items w.committed m h.committed p) p.split p.site below e) same.0 same.1)
 
-    by_site : (o : Option Member) → slice_get w.members k ≡ o → SessionHolds (at_member w o (λ m. with_site_of k m (revoke_entry w.committed i m.site) w))
+    by_site : (o : Option Member) → slice_get w.members k ≡ o → SessionHolds (at_member w o (λ m. with_site_of k m (revoke_entry w.committed w.hints live i m.site) w))
     by_site None e = h
-    by_site (Some m) e = by_result m (every_get _ w.members k m h.members e) (may m e) (revoke_entry w.committed i m.site) refl
+    by_site (Some m) e = by_result m (every_get _ w.members k m h.members e) (may m e) (revoke_entry w.committed w.hints live i m.site) refl
 
 pub send_in : (w : Session) (k : ℕ) → SessionHolds w → SessionHolds (happens w (Send k))
 send_in w k h = by_site (slice_get w.members k) refl

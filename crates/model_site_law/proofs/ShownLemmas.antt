@@ -1,11 +1,11 @@
 -- Patches lead a view from a list to the one that transactions give.
-use Rattle.std.proofs.Common.{◌≡◌, ◌≤◌, ℕ, zero, suc, ◌+◌, true, List, [], ◌∷◌, ◌++◌, length, map, take, drop, replicate, slice_get, Option, Some, None, refl, sym, ap, ◌∙◌, subst, append_assoc, arith}
+use Rattle.std.proofs.Common.{◌≡◌, ◌≤◌, ℕ, zero, suc, ◌+◌, true, List, [], ◌∷◌, ◌++◌, length, take, drop, replicate, slice_get, Some, None, refl, sym, ap, ◌∙◌, subst, append_assoc, arith}
 use Rattle.std.proofs.Math.Seq.{drop-append-add, take-append_seam}
 use Rattle.std.proofs.lemmas.List.{length-append, length-drop, length-take-le, take-append-drop}
 use Rattle.model_items.specs.declared.plain_item.PlainItem.{PlainItem}
 use Rattle.model_change.specs.Attributes.{AttrChange, item_changed}
 use Rattle.model_change.specs.Fault.{Applies, first_allows}
-use Rattle.model_change.specs.Replay.{AllRun, replay}
+use Rattle.model_change.specs.Replay.{replay}
 use Rattle.model_change.specs.Transaction.{Retain, Replace, Attribute, Transaction, edited, old_length, on_first}
 use Rattle.model_change.proofs.Fits.{Fits, parts_of_Applies}
 use Rattle.model_site.specs.Untold.{patches_from, patches_of}

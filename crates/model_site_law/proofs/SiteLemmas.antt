@@ -1,24 +1,25 @@
 -- The invariant of a site is kept by each thing that it does.
-use Rattle.std.proofs.Common.{◌≡◌, suc, ◌+◌, List, [], ◌∷◌, ◌++◌, length, take, drop, Result, Ok, Err, ◌≤◌, ◌<◌, ℕ, refl, sym, ap, ◌∙◌, subst, arith}
-use Rattle.std.proofs.lemmas.List.{append_assoc, append-nil, length-append, take-append-drop}
+use Rattle.std.proofs.Common.{◌≡◌, suc, ◌+◌, List, [], ◌∷◌, ◌++◌, length, take, drop, Bool, Option, Some, Result, Ok, Err, ◌≤◌, ◌<◌, ℕ, refl, sym, ap, ◌∙◌, subst, arith}
+use Rattle.std.proofs.lemmas.List.{append_assoc, append-nil, length-append, length-map, take-append-drop}
 use Rattle.std.proofs.Math.Seq.{take-append_seam}
 use Rattle.ve_base.specs.declared.value.Value.{Value}
 use Rattle.model_items.specs.declared.plain_item.PlainItem.{PlainItem}
-use Rattle.model_change.specs.Join.{RangeConflict}
-use Rattle.model_change.specs.Replay.{AllRun, flattened, replay, revoke}
+use Rattle.model_change.specs.Replay.{AllRun, flattened, replay}
 use Rattle.model_change.specs.Store.{cited}
 use Rattle.model_change.specs.Transaction.{Transaction}
-use Rattle.model_change.proofs.ReversalLaw.{revoke_takes_back}
-use Rattle.model_site.specs.Entries.{Entry, Parcel, all_reverted, entry_of, parcels, reverted}
+use Rattle.model_site.specs.Entries.{Entry, Hints, Parcel, all_reverted, entry_against, hints, parcels, reverted}
 use Rattle.model_site.specs.Joined.{join_entries}
+use Rattle.model_site.specs.Live.{Hinted, RevokeCause, revocation, unhinted}
 use Rattle.model_site.specs.Replica.{all_performed}
-use Rattle.model_site.specs.Site.{Site, entries_of, init_and_last, with_undone, pending, redo, redo_first, revoke_by, revoke_entry, undo, undo_last, with_entry}
+use Rattle.model_site.specs.Site.{Site, entries_of, first_hint, hinted_entries, hints_of, init_and_last, with_undone, pending, redo, redo_first, revoke_by, revoke_entry, undo, undo_last, with_entry_against}
 use Rattle.model_site.specs.Take.{parcel_entries, take_entry}
 use Rattle.model_site_law.specs.Chain.{Chain, needed_values}
 use Rattle.model_site_law.specs.Holds.{Holds, ground}
+use Rattle.model_site_law.specs.LiveLaws.{RunFrom}
 use Rattle.model_site_law.specs.Sound.{AllIn, AllMayRun, Sound}
 use Rattle.model_site_law.proofs.ChainLemmas.{all_reverted_kept, chain_more, chain_needed, chain_noted, last_reverted, performed_needed}
 use Rattle.model_site_law.proofs.JoinedLemmas.{entries_join}
+use Rattle.model_site_law.proofs.LiveLemmas.{revocation_runs, unhinted-hinted}
 use Rattle.model_site_law.proofs.NeedLemmas.{AllNeeded, over_needed}
 use Rattle.model_site_law.proofs.PerformLemmas.{all_performed_grows, all_performed_held}
 use Rattle.model_site_law.proofs.ReplayLemmas.{AllMayRun_from_runs, AllRun-append, AllRun-filled, AllRun-parts, flattened-append, parcels-append, parcels-drop, parcels-noted, parcels-take, replay-append, replay-filled, sound_after}
@@ -34,16 +35,16 @@ pending_more sent unsent e =
     ∙ ap (λ r. flattened (parcels (sent ++ unsent)) ++ r) (append-nil e.txs)
 
 -- what is kept of a site after an entry, but for what was undone
-record WithEntry (base : List PlainItem) (before : List Parcel) (ts : List Transaction) (s : Site) : Type 0 where
-  list : (with_entry ts s).replica.items ≡ replay (flattened (parcels (pending (with_entry ts s)))) (ground base before)
-  runs : AllRun (flattened (parcels (pending (with_entry ts s)))) (ground base before)
-  chain : Chain (with_entry ts s).replica.store 0 (ground base before) (pending (with_entry ts s))
-  held : AllIn (with_entry ts s).replica.store (cited (with_entry ts s).replica.items)
+record WithEntry (base : List PlainItem) (before : List Parcel) (taken : Option ℕ) (ts : List Transaction) (s : Site) : Type 0 where
+  list : (with_entry_against taken ts s).replica.items ≡ replay (flattened (parcels (pending (with_entry_against taken ts s)))) (ground base before)
+  runs : AllRun (flattened (parcels (pending (with_entry_against taken ts s)))) (ground base before)
+  chain : Chain (with_entry_against taken ts s).replica.store 0 (ground base before) (pending (with_entry_against taken ts s))
+  held : AllIn (with_entry_against taken ts s).replica.store (cited (with_entry_against taken ts s).replica.items)
 
-entry_holds : (base : List PlainItem) (before : List Parcel) (ts : List Transaction) (s : Site) → Holds base before s → AllMayRun ts s.replica.items → WithEntry base before ts s
-entry_holds base before ts s h may =
+entry_holds : (base : List PlainItem) (before : List Parcel) (taken : Option ℕ) (ts : List Transaction) (s : Site) → Holds base before s → AllMayRun ts s.replica.items → WithEntry base before taken ts s
+entry_holds base before taken ts s h may =
     let now = s.replica.items in
-    let e = entry_of ts s.replica in
+    let e = entry_against taken ts s.replica in
     let old = flattened (parcels (pending s)) in
     let more = pending_more s.sent s.unsent e in
     let runs_now = AllRun-filled ts now may in
@@ -58,12 +59,16 @@ entry_holds base before ts s h may =
       held = all_performed_held ts s.replica h.held;
     }
 
-pub edit_holds : (base : List PlainItem) (before : List Parcel) (ts : List Transaction) (s : Site) → Holds base before s → AllMayRun ts s.replica.items → Holds base before (with_entry ts s)
-edit_holds base before ts s h may =
-    let w = entry_holds base before ts s h may in
+pub edit_holds : (base : List PlainItem) (before : List Parcel) (taken : Option ℕ) (ts : List Transaction) (s : Site) → Holds base before s → AllMayRun ts s.replica.items → Holds base before (with_entry_against taken ts s)
+edit_holds base before taken ts s h may =
+    let w = entry_holds base before taken ts s h may in
     record { seen = h.seen; list = w.list; runs = w.runs; undone = tt; chain = w.chain; held = w.held }
 
 -- ---- undo and redo
+
+-- the undone transactions performed again, so that these are left
+abbrev pub with_redone : List Transaction → List Parcel → Site → Site
+with_redone ts left s = record (with_entry_against (first_hint s.undone_hints) ts s) { undone = left; undone_hints = drop 1 s.undone_hints }
 
 pub parted_is : (e : Entry) (es : List Entry) → (init_and_last e es).0 ++ (init_and_last e es).1 ∷ [] ≡ e ∷ es
 parted_is e [] = refl
@@ -117,8 +122,8 @@ redo_holds base before s next h done = by_first s.undone refl done
     by_first [] e done = cc
     by_first (ts ∷ us) e done =
         let parts = AllRun-parts ts (flattened us) s.replica.items (subst (λ r. AllRun (flattened r) s.replica.items) (sym e) h.undone) in
-        let w = entry_holds base before ts s h (AllMayRun_from_runs ts s.replica.items parts.0) in
-        let new : Site = record (with_entry ts s) { undone = us } in
+        let w = entry_holds base before (first_hint s.undone_hints) ts s h (AllMayRun_from_runs ts s.replica.items parts.0) in
+        let new : Site = with_redone ts us s in
         let same : new ≡ next = cc in
         subst (Holds base before) same (record { seen = h.seen; list = w.list; runs = w.runs; undone = subst (AllRun (flattened us)) (sym (items_performed ts s.replica)) parts.1; chain = w.chain; held = w.held })
 
@@ -154,23 +159,40 @@ seen_within base before rest committed s split h =
     let seen = h.seen in
     omega arith
 
--- what takes a seen entry back may be performed on the site's list
-pub revoked_may : (base : List PlainItem) (before rest committed : List Parcel) (i : ℕ) (s : Site) (back : List Transaction) → Sound base → AllRun (flattened before) base → before ++ rest ≡ committed →
-    Holds base before s → i < s.seen → revoke (entries_of committed s) i ≡ Ok back → AllMayRun back s.replica.items
-revoked_may base before rest committed i s back sound runs split h below e =
-    let within = seen_within base before rest committed s split h in
-    let taken = revoke_takes_back (entries_of committed s) i back base (omega arith) sound.lawful sound.apart (entries_run base before rest committed s split runs h) e in
-    AllMayRun_from_runs back s.replica.items (subst (AllRun back) (sym (list_is base before rest committed s split h)) taken.runs)
+pub hinted_are : (committed : List Parcel) (hints : Hints) (s : Site) → unhinted (hinted_entries committed hints s) ≡ entries_of committed s
+hinted_are committed hints s = unhinted-hinted (entries_of committed s) (hints_of hints s)
 
-pub revoke_holds : (base : List PlainItem) (before rest committed : List Parcel) (i : ℕ) (s next : Site) → Sound base → AllRun (flattened before) base → before ++ rest ≡ committed →
-    Holds base before s → i < s.seen → revoke_entry committed i s ≡ Ok next → Holds base before next
-revoke_holds base before rest committed i s next sound runs split h below done = by_result (revoke (entries_of committed s) i) refl done
+-- they run from the base, each with what it takes back
+pub known_run : (base : List PlainItem) (before rest committed : List Parcel) (hints : Hints) (i : ℕ) (s : Site) → Sound base → AllRun (flattened before) base → before ++ rest ≡ committed →
+    Holds base before s → i < s.seen → RunFrom (hinted_entries committed hints s) i base
+known_run base before rest committed hints i s sound runs split h below =
+    let within = seen_within base before rest committed s split h in
+    let same = hinted_are committed hints s in
+    let long : length (hinted_entries committed hints s) ≡ length (entries_of committed s) =
+    sym (length-map (hinted_entries committed hints s) (λ (e : Hinted). e.txs)) ∙ ap (λ (ps : List Parcel). length ps) same in
+    record {
+      within = omega arith;
+      sound = sound;
+      runs = subst (λ ps. AllRun (flattened ps) base) (sym same) (entries_run base before rest committed s split runs h);
+    }
+
+-- what takes a seen entry back may be performed on the site's list
+pub revoked_may : (base : List PlainItem) (before rest committed : List Parcel) (hints : Hints) (live : Bool) (i : ℕ) (s : Site) (back : List Transaction) → Sound base → AllRun (flattened before) base →
+    before ++ rest ≡ committed → Holds base before s → i < s.seen → revocation live (hinted_entries committed hints s) i ≡ Ok back → AllMayRun back s.replica.items
+revoked_may base before rest committed hints live i s back sound runs split h below e =
+    let known = known_run base before rest committed hints i s sound runs split h below in
+    let list = list_is base before rest committed s split h ∙ ap (λ ps. replay (flattened ps) base) (sym (hinted_are committed hints s)) in
+    AllMayRun_from_runs back s.replica.items (subst (AllRun back) (sym list) (revocation_runs live (hinted_entries committed hints s) i back base known e))
+
+pub revoke_holds : (base : List PlainItem) (before rest committed : List Parcel) (hints : Hints) (live : Bool) (i : ℕ) (s next : Site) → Sound base → AllRun (flattened before) base →
+    before ++ rest ≡ committed → Holds base before s → i < s.seen → revoke_entry committed hints live i s ≡ Ok next → Holds base before next
+revoke_holds base before rest committed hints live i s next sound runs split h below done = by_result (revocation live (hinted_entries committed hints s) i) refl done
   where
-    by_result : (r : Result (List Transaction) RangeConflict) → revoke (entries_of committed s) i ≡ r → revoke_by r s ≡ Ok next → Holds base before next
-    by_result (Err clash) e done = cc
+    by_result : (r : Result (List Transaction) RevokeCause) → revocation live (hinted_entries committed hints s) i ≡ r → revoke_by i r s ≡ Ok next → Holds base before next
+    by_result (Err cause) e done = cc
     by_result (Ok back) e done =
-        let same : with_entry back s ≡ next = cc in
-        subst (Holds base before) same (edit_holds base before back s h (revoked_may base before rest committed i s back sound runs split h below e))
+        let same : with_entry_against (Some i) back s ≡ next = cc in
+        subst (Holds base before) same (edit_holds base before (Some i) back s h (revoked_may base before rest committed hints live i s back sound runs split h below e))
 
 -- ---- a foreign entry
 
@@ -197,7 +219,7 @@ foreign_holds base before foreign s sound h run =
     let floor_on : ground base (before ++ foreign ∷ []) ≡ replay foreign floor =
     ap (λ us. replay us base) (flattened-append before (foreign ∷ []) ∙ ap (λ r. flattened before ++ r) (append-nil foreign)) ∙ replay-append (flattened before) foreign base in
     let kept_is : parcels (pending new) ≡ j.kept =
-    ap parcels (take-append-drop (length s.sent) (parcel_entries (length new.replica.store) j.kept)) ∙ parcels-noted (length new.replica.store) j.kept in
+    ap parcels (take-append-drop (length s.sent) (parcel_entries (length new.replica.store) (hints (pending s)) j.kept)) ∙ parcels-noted (length new.replica.store) (hints (pending s)) j.kept in
     let list : new.replica.items ≡ replay (flattened j.kept) (replay foreign floor) =
     items_performed j.committed (all_reverted dropped s.replica) ∙ ap (replay j.committed) back ∙ law.one_list in
     let together = take-append-drop n (pending s) in
@@ -209,8 +231,8 @@ foreign_holds base before foreign s sound h run =
     let needs = over_needed middle.store foreign ps (subst (AllNeeded middle.store) (parcels-take n (pending s)) (chain_needed middle.store 0 floor (take n (pending s)) kept.chain)) in
     let end = (all_performed j.committed middle).store in
     record {
-      chain = subst (Chain end 0 (ground base (before ++ foreign ∷ []))) (sym (take-append-drop (length s.sent) (parcel_entries (length end) j.kept)))
-          (chain_noted end 0 (ground base (before ++ foreign ∷ [])) j.kept (omega arith) (needed_grown j.kept grown needs));
+      chain = subst (Chain end 0 (ground base (before ++ foreign ∷ []))) (sym (take-append-drop (length s.sent) (parcel_entries (length end) (hints (pending s)) j.kept)))
+          (chain_noted end 0 (ground base (before ++ foreign ∷ [])) (hints (pending s)) j.kept (omega arith) (needed_grown j.kept grown needs));
       held = all_performed_held j.committed middle kept.held;
       seen = length-append before (foreign ∷ []) ∙ (let e : length before + 1 ≡ suc s.seen = (let f = h.seen in omega arith) in e);
       list = list ∙ ap (replay (flattened j.kept)) (sym floor_on) ∙ ap (λ r. replay (flattened r) (ground base (before ++ foreign ∷ []))) (sym kept_is);

@@ -3,25 +3,25 @@ use Rattle.std.proofs.Common.{◌≡◌, ◌≤◌, ◌<◌, ℕ, zero, suc, ◌
 use Rattle.std.proofs.lemmas.Bool.{eqb-false, ltb-false}
 use Rattle.std.proofs.lemmas.List.{drop_all, length-append, length-take, take-append-drop, take_all}
 use Rattle.model_items.specs.declared.plain_item.PlainItem.{PlainItem}
-use Rattle.model_change.specs.Join.{RangeConflict}
-use Rattle.model_change.specs.Replay.{AllRun, flattened, replay, reversal, revoke}
+use Rattle.model_change.specs.Replay.{AllRun, flattened, replay, reversal}
 use Rattle.model_change.specs.Transaction.{Transaction}
 use Rattle.model_change.proofs.ReversalLaw.{reversal_undoes}
 use Rattle.model_site.specs.Causes.{RedoCause, SendCause, UndoCause}
 use Rattle.model_site.specs.Entries.{Entry, Parcel, all_reverted, parcels}
 use Rattle.model_site.specs.Events.{Event, Perform, Redo, Revoke, Select, Send, Serve, Take, Tell, Undo, after_turn, at_member, happens, run, with_sent, with_site, with_site_of}
 use Rattle.model_site.specs.Joined.{join_entries}
+use Rattle.model_site.specs.Live.{RevokeCause, revocation}
 use Rattle.model_site.specs.Replica.{Replica, all_performed}
 use Rattle.model_site.specs.Session.{Ack, SiteFeed, Foreign, Member, Session, all_fed, feed_for, joining, put_member, serve_first, serve_next, started, take_first, take_next}
-use Rattle.model_site.specs.Site.{Site, Submission, entries_of, init_and_last, pending, redo, redo_first, revoke_by, revoke_entry, send, told, undo, undo_last, with_entry, with_selection, with_told, with_undone}
+use Rattle.model_site.specs.Site.{Site, Submission, init_and_last, pending, redo, redo_first, revoke_by, revoke_entry, send, told, undo, undo_last, with_entry, with_selection, with_told, with_undone, with_entry_against, first_hint, hinted_entries}
 use Rattle.model_site.specs.Take.{take_ack, take_entry, take_foreign}
 use Rattle.model_site.specs.Untold.{Untold, max_patches, passed, patches_of, with_patches}
 use Rattle.model_site.specs.Untold as untold
 use Rattle.model_site_law.specs.Holds.{Holds, ground}
 use Rattle.model_site_law.specs.MayHappen.{AllMayHappen, MayHappen}
 use Rattle.model_site_law.specs.Protocol.{MemberHolds, SessionHolds}
-use Rattle.model_site_law.specs.Sound.{AllMayRun, Opens, Sound}
-use Rattle.model_site_law.specs.ViewLaws.{IsViewOf, View, ViewHolds, list_of, patched, told_at, told_last, whole}
+use Rattle.model_site_law.specs.Sound.{AllMayRun, Sound}
+use Rattle.model_site_law.specs.ViewLaws.{View, ViewHolds, list_of, patched, told_at, told_last, whole}
 use Rattle.model_site_law.proofs.JoinedLemmas.{entries_join}
 use Rattle.model_site_law.proofs.MemberLemmas.{feeds_run, sends}
 use Rattle.model_site_law.proofs.ReplayLemmas.{AllMayRun_from_runs, AllRun-append, AllRun-parts, flattened-append, parcels-drop, replay-append, sound_after}
@@ -29,7 +29,7 @@ use Rattle.model_site_law.proofs.RevertLemmas.{items_all_reverted, items_perform
 use Rattle.model_site_law.proofs.ServeLemmas.{event_holds, start_holds}
 use Rattle.model_site_law.proofs.SessionLemmas.{every_get, seen_runs, seen_sound}
 use Rattle.model_site_law.proofs.ShownLemmas.{Shows, holes_show, length_shows, patched-append, transactions_lead, view_from_shows, whole_shows}
-use Rattle.model_site_law.proofs.SiteLemmas.{foreign_holds, parted_is, pending_more, revoked_may}
+use Rattle.model_site_law.proofs.SiteLemmas.{foreign_holds, parted_is, pending_more, revoked_may, with_redone}
 
 -- ---- one list
 
@@ -59,8 +59,9 @@ passed_leads ts last items u may p = record { was = p.was; shows = shows }
 abbrev pub SiteLeads : List PlainItem → Site → Type 0
 SiteLeads last s = Leads last s.untold s.replica.items
 
-entry_leads : (ts : List Transaction) (last : List PlainItem) (s : Site) → AllMayRun ts s.replica.items → SiteLeads last s → SiteLeads last (with_entry ts s)
-entry_leads ts last s may p =
+entry_leads : (taken : Option ℕ) (ts : List Transaction) (last : List PlainItem) (s : Site) → AllMayRun ts s.replica.items → SiteLeads last s →
+    SiteLeads last (with_entry_against taken ts s)
+entry_leads taken ts last s may p =
     subst (Leads last (passed ts s.untold)) (sym (items_performed ts s.replica)) (passed_leads ts last s.replica.items s.untold may p)
 
 undo_leads : (base last : List PlainItem) (before : List Parcel) (s next : Site) → Sound (ground base before) → Holds base before s → undo s ≡ Ok next →
@@ -90,8 +91,8 @@ redo_leads base last before s next h done p = by_first s.undone refl done
     by_first [] e done = cc
     by_first (ts ∷ us) e done =
         let parts = AllRun-parts ts (flattened us) s.replica.items (subst (λ r. AllRun (flattened r) s.replica.items) (sym e) h.undone) in
-        let same : record (with_entry ts s) { undone = us } ≡ next = cc in
-        subst (SiteLeads last) same (entry_leads ts last s (AllMayRun_from_runs ts s.replica.items parts.0) p)
+        let same : with_redone ts us s ≡ next = cc in
+        subst (SiteLeads last) same (entry_leads (first_hint s.undone_hints) ts last s (AllMayRun_from_runs ts s.replica.items parts.0) p)
 
 take_entry_leads : (base last : List PlainItem) (before : List Parcel) (foreign : Parcel) (s : Site) → Sound (ground base before) → Holds base before s →
     AllRun foreign (ground base before) → SiteLeads last s → SiteLeads last (take_entry foreign s)
@@ -181,7 +182,7 @@ module _ (w : Session) (h : SessionHolds w) (k : ℕ) (last : List PlainItem) (a
     where
       by_site : (o : Option Member) → slice_get w.members j ≡ o → Of k last (at_member w o (λ m. with_site j m (with_entry ts m.site) w)).members
       by_site None e = all
-      by_site (Some m) e = keep j m (record m { site = with_entry ts m.site }) e (entry_leads ts last m.site (may m e))
+      by_site (Some m) e = keep j m (record m { site = with_entry ts m.site }) e (entry_leads None ts last m.site (may m e))
   event_leads (Select j s) may = by_site (slice_get w.members j) refl
     where
       by_site : (o : Option Member) → slice_get w.members j ≡ o → Of k last (at_member w o (λ m. with_site j m (with_selection s m.site) w)).members
@@ -229,19 +230,20 @@ module _ (w : Session) (h : SessionHolds w) (k : ℕ) (last : List PlainItem) (a
       by_site : (o : Option Member) → slice_get w.members j ≡ o → Of k last (at_member w o (λ m. with_site_of j m (redo m.site) w)).members
       by_site None e = all
       by_site (Some m) e = by_result m e (redo m.site) refl
-  event_leads (Revoke j i) may = by_site (slice_get w.members j) refl
+  event_leads (Revoke j i live) may = by_site (slice_get w.members j) refl
     where
-      by_result : (m : Member) → slice_get w.members j ≡ Some m → i < m.site.seen → (r : Result (List Transaction) RangeConflict) → revoke (entries_of w.committed m.site) i ≡ r →
-          Of k last (with_site_of j m (revoke_by r m.site) w).members
-      by_result m e below (Err clash) d = all
+      by_result : (m : Member) → slice_get w.members j ≡ Some m → i < m.site.seen → (r : Result (List Transaction) RevokeCause) →
+          revocation live (hinted_entries w.committed w.hints m.site) i ≡ r →
+          Of k last (with_site_of j m (revoke_by i r m.site) w).members
+      by_result m e below (Err cause) d = all
       by_result m e below (Ok back) d =
           let p = holds_here j m e in
-          keep j m (record m { site = with_entry back m.site }) e
-          (entry_leads back last m.site (revoked_may w.base.items p.before p.rest w.committed i m.site back h.sound (seen_runs w.base.items w.committed m h.committed p) p.split p.site below d))
+          keep j m (record m { site = with_entry_against (Some i) back m.site }) e
+          (entry_leads (Some i) back last m.site (revoked_may w.base.items p.before p.rest w.committed w.hints live i m.site back h.sound (seen_runs w.base.items w.committed m h.committed p) p.split p.site below d))
 
-      by_site : (o : Option Member) → slice_get w.members j ≡ o → Of k last (at_member w o (λ m. with_site_of j m (revoke_entry w.committed i m.site) w)).members
+      by_site : (o : Option Member) → slice_get w.members j ≡ o → Of k last (at_member w o (λ m. with_site_of j m (revoke_entry w.committed w.hints live i m.site) w)).members
       by_site None e = all
-      by_site (Some m) e = by_result m e (may m e) (revoke (entries_of w.committed m.site) i) refl
+      by_site (Some m) e = by_result m e (may m e) (revocation live (hinted_entries w.committed w.hints m.site) i) refl
   event_leads (Send j) may = by_site (slice_get w.members j) refl
     where
       by_result : (m : Member) → slice_get w.members j ≡ Some m → (r : Result (Site × Submission) SendCause) → send m.site ≡ r → Of k last (with_sent j m r w).members

@@ -1,5 +1,5 @@
 -- The laws of sites and server, over every list of events.
-use Rattle.std.specs.Prelude.{◌≡◌, ◌<◌, ◌≤◌, ℕ, suc, ◌+◌, Bool, true, false, List, [], ◌∷◌, length, map, take, slice_get, Option, Some, None, Ok, Err}
+use Rattle.std.specs.Prelude.{◌≡◌, ◌<◌, ◌≤◌, ℕ, suc, ◌+◌, Bool, true, false, List, [], ◌∷◌, length, map, take, slice_get, Option, Some, None, Result, Ok, Err}
 use Rattle.model_items.specs.declared.plain_item.PlainItem.{PlainItem}
 use Rattle.model_items.specs.Plain.{AreDistinct}
 use Rattle.model_change.specs.Transaction.{Transaction}
@@ -8,11 +8,13 @@ use Rattle.model_change.specs.Join.{RangeConflict, join_list}
 use Rattle.model_change.specs.Replay.{replay, AllRun, AllWithin, inserted_by, reversal, flattened, entry_at, made_before, made_after}
 use Rattle.model_site.specs.Replica.{Replica, opened_with}
 use Rattle.model_site.specs.Entries.{Parcel}
-use Rattle.model_site.specs.Site.{Site, pending, with_entry, undo, entries_of, revoke_entry}
+use Rattle.model_site.specs.Live.{Hinted, RevokeCause, live}
+use Rattle.model_site.specs.Site.{Site, pending, with_entry, undo, entries_of, hinted_entries, revoke_entry}
 use Rattle.model_site.specs.Joined.{Joined, join_entries}
 use Rattle.model_site.specs.Session.{SiteFeed, Ack, Member, Session, started}
 use Rattle.model_site.specs.Events.{Event, Undo, Redo, run}
 use Rattle.model_site_law.specs.Sound.{Sound, AllIn, Opens, AllMayRun}
+use Rattle.model_site_law.specs.LiveLaws.{IsLeftOut, list_before}
 use Rattle.model_site_law.specs.MayHappen.{AllMayHappen}
 
 -- The replica that a sound list is opened with is one of those of which the laws speak.
@@ -123,7 +125,30 @@ pub record IsWithout (entries : List Parcel) (i : ℕ) (base now : List PlainIte
 
 abbrev pub RevokeLeavesOut : Type 0
 RevokeLeavesOut = Always (λ base w m. (i : ℕ) (next : Site) → i < length (entries_of w.committed m.site) →
-    revoke_entry w.committed i m.site ≡ Ok next → IsWithout (entries_of w.committed m.site) i base.items next.replica.items)
+    revoke_entry w.committed w.hints false i m.site ≡ Ok next → IsWithout (entries_of w.committed m.site) i base.items next.replica.items)
+
+-- Where what took each other back does not stand in the way: what counts behind entry i gives the
+-- list without it.
+pub record IsWithoutAmong (entries : List Hinted) (i : ℕ) (base now : List PlainItem) : Type 0 where
+  pub back : List Transaction
+  pub left : IsLeftOut entries i back base
+  pub list : now ≡ replay left.without (list_before entries i base)
+
+abbrev pub LiveRevokeIsWithout : Type 0
+LiveRevokeIsWithout = Always (λ base w m. (i : ℕ) (next : Site) → i < length (entries_of w.committed m.site) →
+    revoke_entry w.committed w.hints true i m.site ≡ Ok next → IsWithoutAmong (hinted_entries w.committed w.hints m.site) i base.items next.replica.items)
+
+-- Where nothing behind it counts, entry i is taken back, and the site's list is the one before the
+-- entry.
+pub record IsListBefore (entries : List Hinted) (i : ℕ) (base : List PlainItem) (r : Result Site RevokeCause) : Type 0 where
+  pub next : Site
+  pub taken : r ≡ Ok next
+  pub list : next.replica.items ≡ list_before entries i base
+
+abbrev pub LiveRevokeGivesBack : Type 0
+LiveRevokeGivesBack = Always (λ base w m. (i : ℕ) → i < length (entries_of w.committed m.site) →
+    live (hinted_entries w.committed w.hints m.site) i ≡ Ok [] →
+    IsListBefore (hinted_entries w.committed w.hints m.site) i base.items (revoke_entry w.committed w.hints true i m.site))
 
 -- Undoing at once leaves list and store as they were, whatever happened before.
 abbrev pub UndoneAtOnce : Type 0

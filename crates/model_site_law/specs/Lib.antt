@@ -5,6 +5,7 @@ pub mod Chain
 pub mod Holds
 pub mod Protocol
 pub mod SelectionLaws
+pub mod LiveLaws
 pub mod KeptLaws
 pub mod ItemLaws
 pub mod StoreLaws

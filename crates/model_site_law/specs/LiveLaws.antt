@@ -1,6 +1,6 @@
 -- Laws of what counts of entries, over every list of entries: what took each other back leaves
 -- nothing.
-use Rattle.std.specs.Prelude.{◌≡◌, ◌<◌, ℕ, ◌+◌, List, [], ◌∷◌, ◌++◌, length, Some, Ok, Err}
+use Rattle.std.specs.Prelude.{◌≡◌, ◌<◌, ℕ, ◌+◌, List, [], ◌∷◌, ◌++◌, length, Some, None, Ok, Err}
 use Rattle.model_items.specs.declared.plain_item.PlainItem.{PlainItem}
 use Rattle.model_change.specs.Transaction.{Transaction}
 use Rattle.model_change.specs.Join.{join_list}
@@ -68,3 +68,99 @@ abbrev pub TakenBackCountsNoMore : Type 0
 TakenBackCountsNoMore = (entries : List Hinted) (i : ℕ) (back : List Transaction) (others : List Parcel) (joined : List Transaction × List Transaction) →
     i < length entries → revoke_live entries i ≡ Ok back → join_list (flattened others) back ≡ Ok joined →
     live (taken_back_behind entries i others joined.1) i ≡ Err (length entries + length others)
+
+-- ---- what one person takes back and makes again, in turns
+
+-- one more entry; the newest one that counts, taken back; or the newest one that was taken back,
+-- made again by taking back what took it back
+pub data Step : Type 0 where
+  Make : (ts : List Transaction) → Step
+  Back : Step
+  Again : Step
+
+-- all entries; and of the person's own those that count, and those that took one back and count,
+-- the newest first
+pub record Steps : Type 0 where
+  pub entries : List Hinted
+  pub made : List Standing
+  pub taken : List Standing
+
+abbrev pub at_first : List Hinted → Steps
+at_first entries = record { entries = entries; made = []; taken = [] }
+
+-- what takes it back
+abbrev pub against : Standing → Hinted
+against s = record { txs = reversal s.txs; takes_back = Some s.number }
+
+-- an entry as it counts behind these
+abbrev pub next_of : List Hinted → List Transaction → Standing
+next_of entries ts = record { number = length entries; txs = ts }
+
+abbrev pub back_from : List Standing → Steps → Steps
+back_from [] s = s
+back_from (newest ∷ made) s = record {
+  entries = s.entries ++ against newest ∷ [];
+  made = made;
+  taken = next_of s.entries (reversal newest.txs) ∷ s.taken;
+}
+
+abbrev pub again_from : List Standing → Steps → Steps
+again_from [] s = s
+again_from (newest ∷ taken) s = record {
+  entries = s.entries ++ against newest ∷ [];
+  made = next_of s.entries (reversal newest.txs) ∷ s.made;
+  taken = taken;
+}
+
+-- where one more entry is made, what was taken back before can't be made again
+abbrev pub stepped : Step → Steps → Steps
+stepped (Make ts) s = record {
+  entries = s.entries ++ record { txs = ts; takes_back = None } ∷ [];
+  made = next_of s.entries ts ∷ s.made;
+  taken = [];
+}
+stepped Back s = back_from s.made s
+stepped Again s = again_from s.taken s
+
+abbrev pub all_stepped : List Step → Steps → Steps
+all_stepped [] s = s
+all_stepped (step ∷ steps) s = all_stepped steps (stepped step s)
+
+-- Nothing counts behind the newest one, so its reversal takes it back.
+pub record IsFree (entries : List Hinted) (newest : Standing) : Type 0 where
+  pub own : own_of entries newest.number ≡ newest.txs
+  pub nothing : live entries newest.number ≡ Ok []
+  pub back : revoke_live entries newest.number ≡ Ok (reversal newest.txs)
+
+abbrev pub NewestIsFree : List Hinted → List Standing → Type 0
+NewestIsFree entries [] = Unit {0}
+NewestIsFree entries (newest ∷ older) = IsFree entries newest
+
+-- Whatever entries were there before: nothing stands in the way of what one person takes back and
+-- makes again, in whatever order and however often, while nobody else makes an entry.
+abbrev pub StepsAreFree : Type 0
+StepsAreFree = (first : List Hinted) (steps : List Step) →
+    let s = all_stepped steps (at_first first) in NewestIsFree s.entries s.made × NewestIsFree s.entries s.taken
+
+-- the transactions that are made run on the list then
+abbrev pub MakeRuns : (base : List PlainItem) → Steps → Step → Type 0
+MakeRuns base s (Make ts) = AllRun ts (list_after s.entries base)
+MakeRuns base s _ = Unit {0}
+
+abbrev pub AllMakeRun : (base : List PlainItem) → Steps → List Step → Type 0
+AllMakeRun base s [] = Unit {0}
+AllMakeRun base s (step ∷ steps) = MakeRuns base s step × AllMakeRun base (stepped step s) steps
+
+abbrev pub NewestGivesBack : (base : List PlainItem) → List Hinted → List Standing → Type 0
+NewestGivesBack base entries [] = Unit {0}
+NewestGivesBack base entries (newest ∷ older) = IsBefore entries newest.number base
+
+-- Then all entries run, and taking the newest one back gives the list before it.
+pub record AllGiveBack (base : List PlainItem) (s : Steps) : Type 0 where
+  pub runs : AllRun (flattened (unhinted s.entries)) base
+  pub made : NewestGivesBack base s.entries s.made
+  pub taken : NewestGivesBack base s.entries s.taken
+
+abbrev pub StepsGiveBack : Type 0
+StepsGiveBack = (first : List Hinted) (steps : List Step) (base : List PlainItem) → Sound base → AllRun (flattened (unhinted first)) base →
+    AllMakeRun base (at_first first) steps → AllGiveBack base (all_stepped steps (at_first first))

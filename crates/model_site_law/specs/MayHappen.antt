@@ -15,7 +15,7 @@ EditMayRun = (t : Transaction) (r : Replica) → is_reduced t ≡ true → Inser
 -- was seen. All else may always happen.
 abbrev pub MayHappen : Session → Event → Type 0
 MayHappen w (Perform k ts) = (m : Member) → slice_get w.members k ≡ Some m → AllMayRun ts m.site.replica.items
-MayHappen w (Revoke k i) = (m : Member) → slice_get w.members k ≡ Some m → i < m.site.seen
+MayHappen w (Revoke k i live) = (m : Member) → slice_get w.members k ≡ Some m → i < m.site.seen
 MayHappen w _ = Unit {0}
 
 -- each after those before it

@@ -1,6 +1,7 @@
 // Laws of sites and server, whatever happens. Each function does nothing, and its contract is a law
 // that is proved.
-ghost use Rattle.model_site_law.specs.Laws.{AckCounts, CommittedRun, EntriesJoin, EntriesRun, EntriesWithin, FirstReplicaOpens, FirstStoreIsDistinct, JoinedUntilConflict, ListIsReplay, ListIsSound, OneList, RedoneIsAsBefore, RevokeLeavesOut, SeenIsCommitted, SitesStay, StoreHolds, StoreIsDistinct, UndoneAtOnce, UndoneIsFirst};
+ghost use Rattle.model_site_law.specs.Laws.{AckCounts, CommittedRun, EntriesJoin, EntriesRun, EntriesWithin, FirstReplicaOpens, FirstStoreIsDistinct, JoinedUntilConflict, ListIsReplay, ListIsSound, LiveRevokeGivesBack, LiveRevokeIsWithout, OneList, RedoneIsAsBefore, RevokeLeavesOut, SeenIsCommitted, SitesStay, StoreHolds, StoreIsDistinct, UndoneAtOnce, UndoneIsFirst};
+ghost use Rattle.model_site_law.specs.LiveLaws.{LiveRevokeLeavesOut, NothingStandsAbove, StepsAreFree, StepsGiveBack, TakenBackCountsNoMore, WhatCountsIsAll};
 ghost use Rattle.model_site_law.specs.SelectionLaws.{FirstSelectionStands, MovedStands, SelectionStands};
 ghost use Rattle.model_site_law.specs.MayHappen.{EditMayRun};
 ghost use Rattle.model_site_law.specs.ItemLaws.{ItemsKeep};
@@ -83,9 +84,37 @@ pub fn selections_stand()
 {}
 
 /// After an entry is taken back the list is the one that the later entries give without it, joined
-/// over its reversal.
+/// over its reversal. Where what took each other back does not stand in the way, it is the one that
+/// what counts behind the entry gives without it. Where nothing behind it counts, the entry is taken
+/// back, and the list is the one before it.
 pub fn revokes_leave_out()
-    ensures { RevokeLeavesOut }
+    ensures all { RevokeLeavesOut }
+    ensures live { LiveRevokeIsWithout }
+    ensures before { LiveRevokeGivesBack }
+{}
+
+/// The same of every list of entries that run from a page, in whatever order they came. An entry and
+/// what counts behind it run, and give the list that all entries give: so what took each other back
+/// leaves nothing. What takes the entry back runs on that list, and the list is then as it would be,
+/// had the entry never been made.
+pub fn what_counts_is_all()
+    ensures all { WhatCountsIsAll }
+    ensures left_out { LiveRevokeLeavesOut }
+    ensures before { NothingStandsAbove }
+{}
+
+/// An entry that was taken back counts no more. The one that took it back is told by its number, also
+/// where others committed entries in between that took nothing back.
+pub fn taken_back_counts_no_more()
+    ensures { TakenBackCountsNoMore }
+{}
+
+/// A person makes entries, takes back the newest that counts, and makes again the newest that was
+/// taken back, in any order and however often. While nobody else makes an entry, nothing stands in
+/// the way: each is taken back by its reversal, which gives the list before it.
+pub fn steps_are_free()
+    ensures free { StepsAreFree }
+    ensures lists { StepsGiveBack }
 {}
 
 /// Undoing at once leaves list and store as they were, whatever happened before. A site that has

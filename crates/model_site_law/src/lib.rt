@@ -8,6 +8,8 @@
 //!   or values is among the premises;
 //! - `Laws`: that each list is a replay, that sites meet, that stores hold what lists cite, what an
 //!   undo and a revoke give back;
+//! - `LiveLaws`: that what counts of entries gives the list that all give, and what is left where one
+//!   is taken back under it;
 //! - `Chain`, `Holds`, `Protocol`: what always holds of a store, of a site, and of sites, queues
 //!   and server together;
 //! - `SelectionLaws`: where the ends of selections stand;
@@ -25,6 +27,6 @@ mod laws;
 
 pub use laws::{
     acks_count, counts_stay_within, entries_join, events_keep, items_keep, lists_are_replays,
-    revokes_leave_out, selections_stand, sites_meet, stores_begin, stores_hold, turns_come_to_rest,
-    undo_gives_back, views_hold,
+    revokes_leave_out, selections_stand, sites_meet, steps_are_free, stores_begin, stores_hold,
+    taken_back_counts_no_more, turns_come_to_rest, undo_gives_back, views_hold, what_counts_is_all,
 };
