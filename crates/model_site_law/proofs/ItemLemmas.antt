@@ -21,7 +21,7 @@ use Rattle.model_site.specs.Replica.{Replica, all_filled}
 use Rattle.model_site.specs.Session.{Ack, Foreign, Member, Session, SiteFeed, accepted_of, all_fed, feed_for, foreign_feed, joining, put_member, serve_first, started, take_first}
 use Rattle.model_site.specs.Site.{Site, Submission, entries_of, init_and_last, with_undone, pending, redo, redo_first, revoke_by, send, undo, undo_last, with_entry, with_selection, with_told, with_entry_against, first_hint, hinted_entries}
 use Rattle.model_site.specs.Take.{parcel_entries, take_ack, take_entry, take_foreign}
-use Rattle.model_site_law.specs.ItemLaws.{AllInsert, AllPass, Inserts, ItemsKeep, SettingKeeps}
+use Rattle.model_site_law.specs.ItemLaws.{AllInsert, AllPass, Inserts, ItemsKeep, RevocationsKeep, SettingKeeps}
 use Rattle.model_site_law.specs.LiveLaws.{RunFrom, list_before, own_of}
 use Rattle.model_site_law.specs.MayHappen.{AllMayHappen, MayHappen}
 use Rattle.model_site_law.specs.Protocol.{Every, MemberHolds, SessionHolds}
@@ -222,6 +222,10 @@ module _ (test : PlainItem → Bool) (keeps : SettingKeeps test) where
   live_counts i own n (entry ∷ entries) standing result c ins e =
       live_counts i own (suc n) entries (stand n entry standing) result (stand_counts n entry standing c ins.0) ins.1
       (not_back (is_back i own entry standing) n (live_from i own (suc n) entries (stand n entry standing)) result e).1
+
+  in_parts : (ps : List Parcel) → AllInsert test (flattened ps) → Entries ps
+  in_parts [] i = tt
+  in_parts (p ∷ ps) i = let q = all-parts Ins p (flattened ps) i in (q.0, in_parts ps q.1)
 
   revocation_inserts : (way : Bool) (entries : List Hinted) (i : ℕ) (back : List Transaction) (base : List PlainItem) → RunFrom entries i base → Entries (unhinted entries) → All base →
       revocation way entries i ≡ Ok back → AllInsert test back
@@ -450,3 +454,7 @@ items_keep test base sites events k m keeps opens may first inserts e =
     let known = flat test keeps (entries_of w.committed m.site) (known_insert test keeps w.committed m.site end.committed inside.site) in
     subst (AllPass test) (sym (list_is_replay base sites events k m opens may e))
     (replay_all test keeps (flattened (entries_of w.committed m.site)) base.items (all_entries_run base sites events k m opens may e) known first)
+
+pub revocations_keep : RevocationsKeep
+revocations_keep test way entries i back base keeps r inserts first e =
+    revocation_inserts test keeps way entries i back base r (in_parts test keeps (unhinted entries) inserts) first e

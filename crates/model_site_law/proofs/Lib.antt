@@ -25,6 +25,7 @@ pub mod KeptLemmas
 pub mod EditLemmas
 pub mod CountLemmas
 pub mod ItemLemmas
+pub mod HintLemmas
 pub mod BeginLemmas
 pub mod ShownLemmas
 pub mod ToldLemmas

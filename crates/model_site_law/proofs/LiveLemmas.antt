@@ -119,7 +119,7 @@ pub record Stands (standing : List Standing) (from now : List PlainItem) : Type 
   pub runs : AllRun (all_standing standing) from
   pub list : replay (all_standing standing) from ≡ now
 
-last_stands : (s : Standing) (standing : List Standing) (from now : List PlainItem) → Stands standing from now → AllRun s.txs now → Stands (standing ++ s ∷ []) from (replay s.txs now)
+pub last_stands : (s : Standing) (standing : List Standing) (from now : List PlainItem) → Stands standing from now → AllRun s.txs now → Stands (standing ++ s ∷ []) from (replay s.txs now)
 last_stands s standing from now h runs =
     let all = all_standing-more standing s in
     record {
@@ -128,7 +128,7 @@ last_stands s standing from now h runs =
     }
 
 -- those after one that is taken back
-left_stands : (back taken : List Transaction) (after left : List Standing) (from now : List PlainItem) → Sound from → AllRun taken from → Stands after (replay taken from) now →
+pub left_stands : (back taken : List Transaction) (after left : List Standing) (from now : List PlainItem) → Sound from → AllRun taken from → Stands after (replay taken from) now →
     left_without back taken after ≡ Some left → Stands left from (replay back now)
 left_stands back taken after left from now sound runs h e = by_join (join_list (all_standing after) (reversal taken)) refl e
   where
@@ -150,7 +150,7 @@ left_stands back taken after left from now sound runs h e = by_join (join_list (
                   ∙ replay_alike joined.1 back now a;
             })
 
-without_stands : (m : ℕ) (back : List Transaction) (standing left : List Standing) (from now : List PlainItem) → Sound from → Stands standing from now →
+pub without_stands : (m : ℕ) (back : List Transaction) (standing left : List Standing) (from now : List PlainItem) → Sound from → Stands standing from now →
     without m back standing ≡ Some left → Stands left from (replay back now)
 without_stands m back [] left from now sound h e = cc
 without_stands m back (s ∷ after) left from now sound h e =
@@ -180,7 +180,7 @@ without_stands m back (s ∷ after) left from now sound h e =
     by_number all true e = left_stands back s.txs after left from now sound parts.0 rest e
     by_number all false e = by_rest all (without m back after) refl e
 
-stand_stands : (n : ℕ) (entry : Hinted) (standing : List Standing) (from now : List PlainItem) → Sound from → Stands standing from now → AllRun entry.txs now →
+pub stand_stands : (n : ℕ) (entry : Hinted) (standing : List Standing) (from now : List PlainItem) → Sound from → Stands standing from now → AllRun entry.txs now →
     Stands (stand n entry standing) from (replay entry.txs now)
 stand_stands n entry standing from now sound h runs = by_hint entry.takes_back
   where

@@ -1,5 +1,6 @@
 -- The laws of sites and server, over every list of events.
 use Rattle.std.specs.Prelude.{◌≡◌, ◌<◌, ◌≤◌, ℕ, suc, ◌+◌, Bool, true, false, List, [], ◌∷◌, length, map, take, slice_get, Option, Some, None, Result, Ok, Err}
+use Rattle.std.specs.List.{AllByRecursion}
 use Rattle.model_items.specs.declared.plain_item.PlainItem.{PlainItem}
 use Rattle.model_items.specs.Plain.{AreDistinct}
 use Rattle.model_change.specs.Transaction.{Transaction}
@@ -9,7 +10,7 @@ use Rattle.model_change.specs.Replay.{replay, AllRun, AllWithin, inserted_by, re
 use Rattle.model_site.specs.Replica.{Replica, opened_with}
 use Rattle.model_site.specs.Entries.{Parcel}
 use Rattle.model_site.specs.Live.{Hinted, RevokeCause, live}
-use Rattle.model_site.specs.Site.{Site, pending, with_entry, undo, entries_of, hinted_entries, revoke_entry}
+use Rattle.model_site.specs.Site.{Site, Submission, pending, with_entry, undo, redo, entries_of, hints_of, hinted_entries, revoke_entry}
 use Rattle.model_site.specs.Joined.{Joined, join_entries}
 use Rattle.model_site.specs.Session.{SiteFeed, Ack, Member, Session, started}
 use Rattle.model_site.specs.Events.{Event, Undo, Redo, run}
@@ -149,6 +150,35 @@ abbrev pub LiveRevokeGivesBack : Type 0
 LiveRevokeGivesBack = Always (λ base w m. (i : ℕ) → i < length (entries_of w.committed m.site) →
     live (hinted_entries w.committed w.hints m.site) i ≡ Ok [] →
     IsListBefore (hinted_entries w.committed w.hints m.site) i base.items (revoke_entry w.committed w.hints true i m.site))
+
+-- Beside each entry stands what it takes back: of those committed, submitted, undone, and known.
+pub record HintsBeside (w : Session) (m : Member) : Type 0 where
+  pub committed : length w.hints ≡ length w.committed
+  pub submitted : AllByRecursion (λ (s : Submission). length s.hints ≡ length s.entries) m.submissions
+  pub undone : length m.site.undone_hints ≡ length m.site.undone
+  pub known : length (hints_of w.hints m.site) ≡ length (entries_of w.committed m.site)
+
+abbrev pub HintsStandBeside : Type 0
+HintsStandBeside = Always (λ base w m. HintsBeside w m)
+
+-- An undo is accepted wherever something is unsent, and a redo wherever something is undone.
+pub record IsUndone (s : Site) : Type 0 where
+  pub next : Site
+  pub accepted : undo s ≡ Ok next
+  pub unsent : suc (length next.unsent) ≡ length s.unsent
+  pub undone : length next.undone ≡ suc (length s.undone)
+
+abbrev pub UndoIsAccepted : Type 0
+UndoIsAccepted = (s : Site) → 0 < length s.unsent → IsUndone s
+
+pub record IsRedone (s : Site) : Type 0 where
+  pub next : Site
+  pub accepted : redo s ≡ Ok next
+  pub unsent : length next.unsent ≡ suc (length s.unsent)
+  pub undone : suc (length next.undone) ≡ length s.undone
+
+abbrev pub RedoIsAccepted : Type 0
+RedoIsAccepted = (s : Site) → 0 < length s.undone → IsRedone s
 
 -- Undoing at once leaves list and store as they were, whatever happened before.
 abbrev pub UndoneAtOnce : Type 0

@@ -1,10 +1,10 @@
 // Laws of sites and server, whatever happens. Each function does nothing, and its contract is a law
 // that is proved.
-ghost use Rattle.model_site_law.specs.Laws.{AckCounts, CommittedRun, EntriesJoin, EntriesRun, EntriesWithin, FirstReplicaOpens, FirstStoreIsDistinct, JoinedUntilConflict, ListIsReplay, ListIsSound, LiveRevokeGivesBack, LiveRevokeIsWithout, OneList, RedoneIsAsBefore, RevokeLeavesOut, SeenIsCommitted, SitesStay, StoreHolds, StoreIsDistinct, UndoneAtOnce, UndoneIsFirst};
+ghost use Rattle.model_site_law.specs.Laws.{AckCounts, CommittedRun, EntriesJoin, EntriesRun, EntriesWithin, FirstReplicaOpens, FirstStoreIsDistinct, HintsStandBeside, JoinedUntilConflict, ListIsReplay, ListIsSound, LiveRevokeGivesBack, LiveRevokeIsWithout, OneList, RedoIsAccepted, RedoneIsAsBefore, RevokeLeavesOut, SeenIsCommitted, SitesStay, StoreHolds, StoreIsDistinct, UndoIsAccepted, UndoneAtOnce, UndoneIsFirst};
 ghost use Rattle.model_site_law.specs.LiveLaws.{LiveRevokeLeavesOut, NothingStandsAbove, StepsAreFree, StepsGiveBack, TakenBackCountsNoMore, WhatCountsIsAll};
 ghost use Rattle.model_site_law.specs.SelectionLaws.{FirstSelectionStands, MovedStands, SelectionStands};
 ghost use Rattle.model_site_law.specs.MayHappen.{EditMayRun};
-ghost use Rattle.model_site_law.specs.ItemLaws.{ItemsKeep};
+ghost use Rattle.model_site_law.specs.ItemLaws.{ItemsKeep, RevocationsKeep};
 ghost use Rattle.model_site_law.specs.KeptLaws.{EventsKeep, HoldsAtFirst};
 ghost use Rattle.model_site_law.specs.StoreLaws.{StoreBegins};
 ghost use Rattle.model_site_law.specs.QuietLaws.{QuietSitesMeet, ServingLowers, TakingLowers};
@@ -117,6 +117,20 @@ pub fn steps_are_free()
     ensures lists { StepsGiveBack }
 {}
 
+/// There are as many hints as entries, of those committed, submitted, undone and known to a site. So
+/// each entry has its own beside it.
+pub fn hints_stand_beside()
+    ensures { HintsStandBeside }
+{}
+
+/// An undo is accepted wherever something is unsent, and a redo wherever something is undone. Each
+/// takes one entry from there.
+#[tactic(auto, using(crate::proofs::HintLemmas::undo_is_accepted, crate::proofs::HintLemmas::redo_is_accepted))]
+pub fn turns_are_accepted()
+    ensures undo { UndoIsAccepted }
+    ensures redo { RedoIsAccepted }
+{}
+
 /// Undoing at once leaves list and store as they were, whatever happened before. A site that has
 /// taken nothing and has nothing pending has its first list and its first store. One that has taken
 /// nothing and has nothing undone may undo and redo, in any order. Once nothing is undone again,
@@ -146,7 +160,8 @@ pub fn views_hold()
 
 /// A property that each opened and each inserted item has, and that setting an attribute keeps,
 /// holds of each item of every site's list. What is undone, redone, joined and taken back inserts
-/// no other items.
+/// no other items, and so it is of entries that run from any page.
 pub fn items_keep()
-    ensures { ItemsKeep }
+    ensures always { ItemsKeep }
+    ensures revoked { RevocationsKeep }
 {}
