@@ -55,11 +55,14 @@ first_hints zero ps = refl
 first_hints (suc n) [] = refl
 first_hints (suc n) (p ∷ ps) = ap (λ hs. p.entry.takes_back ∷ hs) (first_hints n ps)
 
-pub kept_hints : (kept mine : List SentParcel) → map outline kept ≡ map outline (take (length kept) mine) →
-    (travelling kept).hints ≡ take (length (travelling kept).entries) (travelling mine).hints
-kept_hints kept mine e =
-    of_outlines kept (take (length kept) mine) e
-    ∙ (first_hints (length kept) mine ∙ ap (λ n. take n (travelling mine).hints) (sym (length-map kept parcel_by_value)))
+pub kept_hints : (made sent : Travelling) (kept mine : List SentParcel) → made ≡ travelling kept → travelling mine ≡ sent →
+    map outline kept ≡ map outline (take (length kept) mine) → made.hints ≡ take (length made.entries) sent.hints
+kept_hints made sent kept mine is of e =
+    ap (λ t. t.hints) is
+    ∙ (of_outlines kept (take (length kept) mine) e
+    ∙ (first_hints (length kept) mine
+    ∙ (ap (λ n. take n (travelling mine).hints) (sym (length-map kept parcel_by_value) ∙ ap (λ t. length t.entries) (sym is))
+    ∙ ap (λ t. take (length made.entries) t.hints) of)))
 
 -- ---- staging
 

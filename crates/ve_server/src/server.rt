@@ -29,9 +29,9 @@ impl Model for Server {
     ghost Value = { Serving };
 
     ghost view = { λ s. record {
-        committed = s.committed.entries;
-        hints = s.committed.hints;
-        queues = feeds_in s.queues.items;
+      committed = s.committed.entries;
+      hints = s.committed.hints;
+      queues = feeds_in s.queues.items;
     } };
 }
 

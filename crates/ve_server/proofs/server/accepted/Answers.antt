@@ -1,7 +1,6 @@
-use Rattle.std.proofs.Common.{◌∙◌, length, take, sym, ap}
+use Rattle.std.proofs.Common.{◌∙◌, ap}
 use Rattle.model_site.specs.Session.{clash_of}
 use Rattle.ve_server.proofs.ServerLemmas.{may_join, is_accepted, kept_hints}
-use Rattle.ve_server.specs.Travelling.{travelling}
 use Rattle.ve_server.proofs.server.accepted.Goals as goal
 
 pub entries_over_list-requires : goal.entries_over_list-requires
@@ -18,6 +17,4 @@ returns-clause-clash c =
 
 pub returns-clause-hints : goal.returns-clause-hints
 returns-clause-hints c =
-    ap (λ t. t.hints) c.from_list.ensures
-    ∙ (kept_hints c.in_ok-kept.kept c.as_slice-2.result.now c.in_ok-kept.ensures.outlines
-    ∙ (ap (λ t. take (length (travelling c.in_ok-kept.kept).entries) t.hints) c.as_slice-2.ensures.values ∙ ap (λ t. take (length t.entries) c.args.submit.now.parcels.hints) (sym c.from_list.ensures)))
+    kept_hints c.from_list.result c.args.submit.now.parcels _ c.as_slice-2.result.now c.from_list.ensures c.as_slice-2.ensures.values c.in_ok-kept.ensures.outlines
