@@ -15,5 +15,5 @@ parted (e ∷ es) (suc i) below = parted es i (omega (arith, below))
 pub earlier_do_not_count : EarlierDoNotCount
 earlier_do_not_count entries i below =
     let p = parted entries i below in
-    ap (revoke_first i) p.1.0
-    ∙ ap (λ (own : List Transaction). under_live own (live_from i own (suc i) (drop (suc i) entries) [])) (sym p.1.1)
+    ap (revoke_first i) p.1
+    ∙ ap (λ (own : List Transaction). under_live own (live_from i own (suc i) (drop (suc i) entries) [])) (sym p.2)

@@ -33,7 +33,9 @@ impl From<Memory> for RevokeFault {
 pub enum LiveFault {
     /// The entry of that number took it back already.
     #[error("entry {by} took it back")]
-    TakenBack { by: usize },
+    TakenBack {
+        by: usize,
+    },
     /// An entry that counts conflicts with what takes it back: the active ranges of the first two
     /// transactions that do, each as its start and its end in the list that both apply to, in items.
     #[error("the range {reversal:?} of what takes it back conflicts with the later {later:?}")]
