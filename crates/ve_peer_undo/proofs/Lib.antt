@@ -2,3 +2,4 @@ mod UndoneLemmas
 mod RunLemmas
 mod RevokeExamples
 mod CountingLemmas
+mod AlikeLemmas

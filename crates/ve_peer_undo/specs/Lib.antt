@@ -5,3 +5,4 @@ pub use Rattle.ve_rebase.specs.Lists
 pub mod Refusal
 pub mod Laws
 pub mod Counting
+pub mod Alike

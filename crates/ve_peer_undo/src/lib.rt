@@ -14,6 +14,7 @@
 //! gives the list that the later ones make without the entry. The entries before it don't matter.
 #![tactic(auto)]
 
+mod alike;
 mod fault;
 mod laws;
 mod live;
