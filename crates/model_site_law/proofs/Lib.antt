@@ -29,5 +29,7 @@ pub mod HintLemmas
 pub mod BeginLemmas
 pub mod ShownLemmas
 pub mod ToldLemmas
+pub mod TellLemmas
 pub mod QuietLemmas
 mod LawExamples
+mod StepExamples

@@ -8,7 +8,7 @@ ghost use Rattle.model_site_law.specs.ItemLaws.{ItemsKeep, RevocationsKeep};
 ghost use Rattle.model_site_law.specs.KeptLaws.{EventsKeep, HoldsAtFirst};
 ghost use Rattle.model_site_law.specs.StoreLaws.{StoreBegins};
 ghost use Rattle.model_site_law.specs.QuietLaws.{QuietSitesMeet, ServingLowers, TakingLowers};
-ghost use Rattle.model_site_law.specs.ViewLaws.{PatchesLead, ViewHolds};
+ghost use Rattle.model_site_law.specs.ViewLaws.{PatchesCount, PatchesLead, TellsWhatWasMade, ViewHolds};
 
 /// Entries are joined over committed transactions up to the first conflict. The transactions of
 /// those kept join as one list, and with the next entry's they have that conflict. So an entry is
@@ -156,6 +156,14 @@ pub fn events_keep()
 pub fn views_hold()
     ensures lead { PatchesLead }
     ensures always { ViewHolds }
+{}
+
+/// A site tells the patches of the transactions that it made since it told last. They take out and
+/// put in as many items as those do, and one for each attribute that is set. Where there are over
+/// 1,000 patches, one stands for all.
+pub fn patches_count()
+    ensures count { PatchesCount }
+    ensures made { TellsWhatWasMade }
 {}
 
 /// A property that each opened and each inserted item has, and that setting an attribute keeps,

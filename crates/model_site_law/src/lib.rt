@@ -27,7 +27,7 @@ mod laws;
 
 pub use laws::{
     acks_count, counts_stay_within, entries_join, events_keep, hints_stand_beside, items_keep,
-    lists_are_replays, revokes_leave_out, selections_stand, sites_meet, steps_are_free,
-    stores_begin, stores_hold, taken_back_counts_no_more, turns_are_accepted, turns_come_to_rest,
-    undo_gives_back, views_hold, what_counts_is_all,
+    lists_are_replays, patches_count, revokes_leave_out, selections_stand, sites_meet,
+    steps_are_free, stores_begin, stores_hold, taken_back_counts_no_more, turns_are_accepted,
+    turns_come_to_rest, undo_gives_back, views_hold, what_counts_is_all,
 };
