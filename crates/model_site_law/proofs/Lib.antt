@@ -8,6 +8,7 @@ pub mod PerformLemmas
 pub mod NeedLemmas
 pub mod AcceptLemmas
 pub mod BackLemmas
+pub mod OwnedLemmas
 pub mod StepLemmas
 pub mod ChainLemmas
 pub mod SiteLemmas

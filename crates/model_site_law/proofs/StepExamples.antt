@@ -1,6 +1,6 @@
 -- What counts of entries, what one person takes back and makes again, and what a site tells: the
 -- words of these laws, at work.
-use Rattle.std.proofs.Common.{◌≡◌, ℕ, List, [], ◌∷◌, ◌++◌, Some, None, Err, codes, map, refl}
+use Rattle.std.proofs.Common.{◌≡◌, ℕ, true, List, [], ◌∷◌, ◌++◌, Some, None, Err, codes, map, refl, Ok}
 use Rattle.model_items.specs.declared.plain_item.PlainItem.{PlainItem}
 use Rattle.model_items.specs.declared.plain_item.PlainItem.TheVariants.{Char}
 use Rattle.model_change.specs.Join.{retained}
@@ -10,7 +10,7 @@ use Rattle.model_site.specs.Live.{Hinted, Standing, hinted, live}
 use Rattle.model_site.specs.Replica.{opened_with}
 use Rattle.model_site.specs.Session.{Session, started}
 use Rattle.model_site.specs.Untold.{patches_of}
-use Rattle.model_site_law.specs.LiveLaws.{Again, Back, Make, Step, Steps, all_stepped, at_first, list_after, list_before, own_of, taken_back_behind}
+use Rattle.model_site_law.specs.LiveLaws.{Again, Back, Make, Other, Step, Steps, all_stepped, at_first, is_among, list_after, list_before, own_of, taken_back_behind}
 use Rattle.model_site_law.specs.ViewLaws.{all_out, all_put_in, attributes_by, opening, since_told}
 
 -- a letter comes behind so many
@@ -78,6 +78,28 @@ forgotten = refl
 
 then_c : text_of (list_after (after (Make (letter 0 97) ∷ Make (letter 1 98) ∷ Back ∷ Make (letter 1 99) ∷ Again ∷ [])).entries []) ≡ codes "ac"
 then_c = refl
+
+-- somebody types c in between: b goes under it, then a under what c is without b, and both come back
+abbrev in_company : List Step
+in_company = Make (letter 0 97) ∷ Make (letter 1 98) ∷ Other (letter 2 99) ∷ Back ∷ Back ∷ []
+
+only_c : text_of (list_after (after in_company).entries []) ≡ codes "c"
+only_c = refl
+
+all_again : text_of (list_after (after (in_company ++ Again ∷ Again ∷ [])).entries []) ≡ codes "abc"
+all_again = refl
+
+-- behind a nothing counts but c, as it is without b
+b_is_gone : live (after (Make (letter 0 97) ∷ Make (letter 1 98) ∷ Other (letter 2 99) ∷ Back ∷ [])).entries 0
+    ≡ Ok (record { number = 2; txs = letter 1 99 } ∷ [])
+b_is_gone = refl
+
+theirs : is_among (after in_company).others 2 ≡ true
+theirs = refl
+
+-- somebody makes b of a: then a is not taken back, and stays the newest
+refused : numbers (after (Make (letter 0 97) ∷ Other ((Replace (Char 97 [] ∷ []) (Char 98 [] ∷ []) ∷ []) ∷ []) ∷ Back ∷ [])).made ≡ 0 ∷ []
+refused = refl
 
 -- ---- what a site tells
 

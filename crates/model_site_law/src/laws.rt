@@ -1,7 +1,7 @@
 // Laws of sites and server, whatever happens. Each function does nothing, and its contract is a law
 // that is proved.
 ghost use Rattle.model_site_law.specs.Laws.{AckCounts, CommittedRun, EntriesJoin, EntriesRun, EntriesWithin, FirstReplicaOpens, FirstStoreIsDistinct, HintsStandBeside, JoinedUntilConflict, ListIsReplay, ListIsSound, LiveRevokeGivesBack, LiveRevokeIsWithout, OneList, RedoIsAccepted, RedoneIsAsBefore, RevokeLeavesOut, SeenIsCommitted, SitesStay, StoreHolds, StoreIsDistinct, UndoIsAccepted, UndoneAtOnce, UndoneIsFirst};
-ghost use Rattle.model_site_law.specs.LiveLaws.{LiveRevokeLeavesOut, NothingStandsAbove, StepsAreFree, StepsGiveBack, TakenBackCountsNoMore, WhatCountsIsAll};
+ghost use Rattle.model_site_law.specs.LiveLaws.{LiveRevokeLeavesOut, NothingStandsAbove, OwnStepsAreFree, OwnStepsGiveBack, StepsRun, TakenBackCountsNoMore, WhatCountsIsAll};
 ghost use Rattle.model_site_law.specs.SelectionLaws.{FirstSelectionStands, MovedStands, SelectionStands};
 ghost use Rattle.model_site_law.specs.MayHappen.{EditMayRun};
 ghost use Rattle.model_site_law.specs.ItemLaws.{ItemsKeep, RevocationsKeep};
@@ -110,11 +110,14 @@ pub fn taken_back_counts_no_more()
 {}
 
 /// A person makes entries, takes back the newest that counts, and makes again the newest that was
-/// taken back, in any order and however often. While nobody else makes an entry, nothing stands in
-/// the way: each is taken back by its reversal, which gives the list before it.
+/// taken back, in any order and however often; others make entries in between, which take nothing
+/// back. Then nothing of the person's own stands in the way of the next step: only what others made
+/// can. All entries run where those that are made do. Where nobody else made one, each is taken back,
+/// and the list before it is there again.
 pub fn steps_are_free()
-    ensures free { StepsAreFree }
-    ensures lists { StepsGiveBack }
+    ensures free { OwnStepsAreFree }
+    ensures runs { StepsRun }
+    ensures lists { OwnStepsGiveBack }
 {}
 
 /// There are as many hints as entries, of those committed, submitted, undone and known to a site. So

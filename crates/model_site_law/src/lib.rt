@@ -9,13 +9,14 @@
 //! - `Laws`: that each list is a replay, that sites meet, that stores hold what lists cite, what an
 //!   undo and a revoke give back;
 //! - `LiveLaws`: that what counts of entries gives the list that all give, and what is left where one
-//!   is taken back under it;
+//!   is taken back under it; and what a person takes back and makes again, step by step;
 //! - `Chain`, `Holds`, `Protocol`: what always holds of a store, of a site, and of sites, queues
 //!   and server together;
 //! - `SelectionLaws`: where the ends of selections stand;
 //! - `ItemLaws`: what holds of each item of every list, since it holds of each that is inserted;
 //! - `StoreLaws`: what the store of every site begins with;
 //! - `ViewLaws`: what whoever keeps a copy of a list has of it, by the patches that its site tells;
+//!   and what these count;
 //! - `QuietLaws`: turns of server and sites come to an end, where sites have one list;
 //! - `KeptLaws`: all this holds at first and after each event.
 //!
