@@ -7,6 +7,7 @@ mod CaretScripts
 mod ReferenceScripts
 mod PeopleScripts
 mod RevokeScripts
+mod ExactScripts
 mod TableScripts
 mod ToldScripts
 mod OrderScripts

@@ -162,7 +162,7 @@ takes_column : Asks (codes "{\"do\":\"col_out\",\"at\":0,\"column\":1}") (reques
 unfolding page_on_literals is_utf8
 takes_column = refl
 
-revokes : Asks (codes "{\"do\":\"revoke\",\"entry\":2}") (request.Revoke 2)
+revokes : Asks (codes "{\"do\":\"revoke\",\"entry\":2}") (request.Revoke 2 false)
 unfolding page_on_literals is_utf8
 revokes = refl
 

@@ -75,3 +75,42 @@ redo_after_send : Answered
     ∷ [])
 unfolding page_on_literals is_utf8 digits
 redo_after_send = refl
+
+-- One person takes back two changes of the same words that were shared, the last first, under another's
+-- typing, and makes the first again.
+in_company : Answered
+    ((codes "{\"do\":\"open\",\"page\":\"<p>abcd</p>\",\"sites\":2}", codes "ok 8")
+    ∷ (codes "{\"do\":\"mark\",\"from\":1,\"to\":3,\"tag\":\"b\"}", codes "ok 8")
+    ∷ (codes "{\"do\":\"send\"}", codes "ok 1")
+    ∷ (codes "{\"do\":\"serve\"}", codes "ok 1 of 1")
+    ∷ (codes "{\"do\":\"take\"}", codes "ok ack 1")
+    ∷ (codes "{\"do\":\"mark\",\"from\":1,\"to\":3,\"tag\":\"i\"}", codes "ok 8")
+    ∷ (codes "{\"do\":\"send\"}", codes "ok 1")
+    ∷ (codes "{\"do\":\"serve\"}", codes "ok 1 of 1")
+    ∷ (codes "{\"do\":\"take\"}", codes "ok ack 1")
+    ∷ (codes "{\"do\":\"take\",\"site\":1}", codes "ok foreign 1 dropped 0")
+    ∷ (codes "{\"do\":\"take\",\"site\":1}", codes "ok foreign 1 dropped 0")
+    ∷ (codes "{\"do\":\"text\",\"at\":4,\"text\":\"X\",\"site\":1}", codes "ok 9")
+    ∷ (codes "{\"do\":\"send\",\"site\":1}", codes "ok 1")
+    ∷ (codes "{\"do\":\"serve\",\"site\":1}", codes "ok 1 of 1")
+    ∷ (codes "{\"do\":\"take\"}", codes "ok foreign 1 dropped 0")
+    ∷ (codes "{\"do\":\"revoke\",\"entry\":1,\"live\":true}", codes "ok 9")
+    ∷ (codes "{\"do\":\"send\"}", codes "ok 1")
+    ∷ (codes "{\"do\":\"serve\"}", codes "ok 1 of 1")
+    ∷ (codes "{\"do\":\"take\"}", codes "ok ack 1")
+    ∷ (codes "{\"do\":\"revoke\",\"entry\":0}", codes "no revoke_conflict 1 3 1 3")
+    ∷ (codes "{\"do\":\"revoke\",\"entry\":1,\"live\":true}", codes "no taken_back 1 3")
+    ∷ (codes "{\"do\":\"revoke\",\"entry\":0,\"live\":true}", codes "ok 9")
+    ∷ (codes "{\"do\":\"html\"}", codes "ok \"<p>abcXd</p>\"")
+    ∷ (codes "{\"do\":\"send\"}", codes "ok 1")
+    ∷ (codes "{\"do\":\"serve\"}", codes "ok 1 of 1")
+    ∷ (codes "{\"do\":\"take\"}", codes "ok ack 1")
+    ∷ (codes "{\"do\":\"revoke\",\"entry\":4,\"live\":true}", codes "ok 9")
+    ∷ (codes "{\"do\":\"html\"}", codes "ok \"<p><b>ab</b>cXd</p>\"")
+    ∷ (codes "{\"do\":\"undo\"}", codes "ok 9")
+    ∷ (codes "{\"do\":\"revoke\",\"entry\":3,\"live\":true}", codes "no revoke_conflict 1 3 1 3")
+    ∷ (codes "{\"do\":\"revoke\",\"entry\":9,\"live\":true}", codes "no bad_entry 9 5")
+    ∷ (codes "{\"do\":\"revoke\",\"entry\":0,\"live\":1}", codes "no bad_command live")
+    ∷ [])
+unfolding page_on_literals is_utf8 digits
+in_company = refl

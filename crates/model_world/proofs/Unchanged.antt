@@ -1,5 +1,5 @@
 -- Where an outcome changes the session, its reply is no refusal.
-use Rattle.std.proofs.Common.{◌≡◌, ℕ, nat_lt, Bool, true, false, List, length, slice_get, slice_range, ◌||◌, Option, Some, None, Result, Ok, Err, if◌then◌else◌, unwrap_or, refl}
+use Rattle.std.proofs.Common.{◌≡◌, ℕ, nat_lt, Bool, true, false, List, length, slice_get, slice_range, ◌||◌, Option, Some, None, Result, Ok, Err, if◌then◌else◌, unwrap_or, refl, map}
 use Rattle.model_change.specs.Transaction.{Transaction}
 use Rattle.model_page.specs.PageItems.{Opened}
 use Rattle.model_edit.specs.Causes.{TableCause, ListCause}
@@ -25,6 +25,7 @@ use Rattle.model_world.specs.declared.reply.Reply.{Reply}
 use Rattle.model_world.specs.declared.reply.Reply.TheVariants as reply
 use Rattle.model_world.specs.Commands.{command}
 use Rattle.model_world.specs.Refusals.{refused_as, undo_refusal, redo_refusal, send_refusal, revoke_refusal, table_refusal, list_refusal}
+use Rattle.model_world.specs.Completed.{completed}
 use Rattle.model_world.specs.Edits.{BatchRefusal, checked_transaction, change_on, batch_on}
 use Rattle.model_world.specs.Opening.{open_page}
 use Rattle.model_world.specs.Answers.{Outcome, Asked, request_outcome, site_of, replica_of, site_items, unchanged_outcome, refusal_outcome, changed_or_no, performed_or_no, batch_or_no, selection_outcome, is_no_end, select_between, next_place, moved_or_no, lower, higher, to_erase, erased_or_no, typing, typed_or_no, items_shown_or_no, node_told, node_or_no, content_near, edge_or, offset_told, near_or_no, grid_or_no, table_changed, list_changed, sent_or_no, served_or_no, taken_or_no, taken_reply, revoked_or_no}
@@ -91,15 +92,15 @@ taken_answers (Some r) = by_taken r.1
     by_taken (taken.Foreign entries dropped) = refl
     by_taken (taken.Acked accepted) = refl
 
-revoke_answers : (a : Asked) (i : ℕ) → Answers (revoked_or_no a i)
-revoke_answers a i = by_seen (nat_lt i (site_of a).seen)
+revoke_answers : (a : Asked) (i : ℕ) (live : Bool) → Answers (revoked_or_no a i live)
+revoke_answers a i live = by_seen (nat_lt i (site_of a).seen)
   where
     by_seen : (b : Bool) → Answers {A = Session} (elim b [
       | false ↦ refusal_outcome (BadEntry i (site_of a).seen)
-      | true ↦ changed_or_no a (refused_as revoke_refusal (revoke_entry a.session.committed i (site_of a)))
+      | true ↦ changed_or_no a (refused_as (revoke_refusal i) (revoke_entry a.session.committed a.session.hints live i (site_of a)))
     ])
     by_seen false = tt
-    by_seen true = site_answers a (refused_as revoke_refusal (revoke_entry a.session.committed i (site_of a)))
+    by_seen true = site_answers a (refused_as (revoke_refusal i) (revoke_entry a.session.committed a.session.hints live i (site_of a)))
 
 show_answers : (a : Asked) (from to : ℕ) → Answers (items_shown_or_no a from to)
 show_answers a from to =
@@ -139,8 +140,8 @@ asked_answers a request.Tell = refl
 asked_answers a (request.ShowItems from to) = show_answers a from (unwrap_or to (length (site_items a)))
 asked_answers a (request.At at) = node_answers a at
 asked_answers a (request.Near at dir) = near_answers a at dir
-asked_answers a (request.Edit change) = performed_answers a (change_on (replica_of a) change)
-asked_answers a (request.Batch cmds) = batch_answers a (batch_on (replica_of a) cmds)
+asked_answers a (request.Edit change) = performed_answers a (change_on (replica_of a) (completed a.page.items change))
+asked_answers a (request.Batch cmds) = batch_answers a (batch_on (replica_of a) (map (completed a.page.items) cmds))
 asked_answers a (request.Select anchor focus) = select_answers a anchor focus
 asked_answers a (request.Move dir by keep) = moved_answers a keep (next_place (site_items a) (replica_of a).selection.focus dir by)
 asked_answers a (request.TypeText text) = typed_answers a (batch_on (replica_of a) (typing (replica_of a).selection text))
@@ -152,7 +153,7 @@ asked_answers a (request.ColIn at column) = table_answers a (col_in (site_items 
 asked_answers a (request.ColOut at column) = table_answers a (col_out (site_items a) at column)
 asked_answers a (request.Indent at) = list_answers a (indent (site_items a) at)
 asked_answers a (request.Outdent at) = list_answers a (outdent (site_items a) at)
-asked_answers a (request.Revoke entry) = revoke_answers a entry
+asked_answers a (request.Revoke entry live) = revoke_answers a entry live
 
 page_answers : (page : Opened) (r : Outcome) → Answers r → Answers (on_page page r)
 page_answers page (Ok r) p = p

@@ -1,5 +1,5 @@
 -- The reply to a site's request, and the session after it.
-use Rattle.std.specs.Prelude.{ℕ, suc, ◌+◌, ◌==◌, min, max, chars, nat_le, nat_lt, Bool, true, false, ◌||◌, if◌then◌else◌, List, [], ◌∷◌, ◌++◌, length, find, reverse, slice_range, Option, Some, None, unwrap_or, Result, Ok, Err}
+use Rattle.std.specs.Prelude.{ℕ, suc, ◌+◌, ◌==◌, min, max, chars, nat_le, nat_lt, Bool, true, false, ◌||◌, if◌then◌else◌, List, [], ◌∷◌, ◌++◌, length, map, find, reverse, slice_range, Option, Some, None, unwrap_or, Result, Ok, Err}
 use Rattle.model_items.specs.declared.plain_item.PlainItem.{PlainItem}
 use Rattle.model_items.specs.declared.plain_item.PlainItem.TheVariants.{Char}
 use Rattle.model_items.specs.Tree.{tree_of, node_at, class_at}
@@ -37,6 +37,7 @@ use Rattle.model_world.specs.declared.reply.Reply.{Reply}
 use Rattle.model_world.specs.declared.reply.Reply.TheVariants as reply
 use Rattle.model_world.specs.Shown.{tree_words}
 use Rattle.model_world.specs.Refusals.{refused_as, undo_refusal, redo_refusal, send_refusal, revoke_refusal, table_refusal, list_refusal}
+use Rattle.model_world.specs.Completed.{completed}
 use Rattle.model_world.specs.Edits.{BatchRefusal, checked_transaction, change_on, batch_on}
 
 -- the reply and the session after it, or the refusal
@@ -239,10 +240,10 @@ taken_or_no None = refusal_outcome NothingQueued
 taken_or_no (Some (w, t)) = Ok (taken_reply t, w)
 
 -- a committed entry that the site has seen, taken back
-abbrev pub revoked_or_no : Asked → ℕ → Outcome
-revoked_or_no a i = elim (nat_lt i (site_of a).seen) [
+abbrev pub revoked_or_no : Asked → ℕ → (live : Bool) → Outcome
+revoked_or_no a i live = elim (nat_lt i (site_of a).seen) [
   | false ↦ refusal_outcome (BadEntry i (site_of a).seen)
-  | true ↦ changed_or_no a (refused_as revoke_refusal (revoke_entry a.session.committed i (site_of a)))
+  | true ↦ changed_or_no a (refused_as (revoke_refusal i) (revoke_entry a.session.committed a.session.hints live i (site_of a)))
 ]
 
 -- ---- each request
@@ -261,8 +262,8 @@ request_outcome a request.Tell = told_outcome a
 request_outcome a (request.ShowItems from to) = items_shown_or_no a from (unwrap_or to (length (site_items a)))
 request_outcome a (request.At at) = node_or_no a at
 request_outcome a (request.Near at dir) = near_or_no a at dir
-request_outcome a (request.Edit change) = performed_or_no a (change_on (replica_of a) change)
-request_outcome a (request.Batch cmds) = batch_or_no a (batch_on (replica_of a) cmds)
+request_outcome a (request.Edit change) = performed_or_no a (change_on (replica_of a) (completed a.page.items change))
+request_outcome a (request.Batch cmds) = batch_or_no a (batch_on (replica_of a) (map (completed a.page.items) cmds))
 request_outcome a (request.Select anchor focus) = select_between a anchor focus
 request_outcome a (request.Move dir by keep) = moved_or_no a keep (next_place (site_items a) (replica_of a).selection.focus dir by)
 request_outcome a (request.TypeText text) = typed_or_no a (batch_on (replica_of a) (typing (replica_of a).selection text))
@@ -274,4 +275,4 @@ request_outcome a (request.ColIn at column) = table_changed a (col_in (site_item
 request_outcome a (request.ColOut at column) = table_changed a (col_out (site_items a) at column)
 request_outcome a (request.Indent at) = list_changed a (indent (site_items a) at)
 request_outcome a (request.Outdent at) = list_changed a (outdent (site_items a) at)
-request_outcome a (request.Revoke entry) = revoked_or_no a entry
+request_outcome a (request.Revoke entry live) = revoked_or_no a entry live

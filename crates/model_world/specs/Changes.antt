@@ -1,7 +1,7 @@
 -- The ten commands that a batch may hold, as a line writes them.
-use Rattle.std.specs.Prelude.{ℕ, List, [], ◌∷◌, codes, Option, Some, None, option_and_then, Result, Ok, Err}
+use Rattle.std.specs.Prelude.{ℕ, false, List, [], ◌∷◌, codes, Option, Some, None, option_and_then, Result, Ok, Err}
 use Rattle.serde_json.specs.Data.{Data, Members}
-use Rattle.serde_json.specs.Find.{get_member, as_object}
+use Rattle.serde_json.specs.Find.{get_member, as_bool, as_object}
 use Rattle.ve_base.specs.declared.marks.Mark as base
 use Rattle.model_world.specs.declared.edit_command.TextMarks.{TextMarks}
 use Rattle.model_world.specs.declared.edit_command.TextMarks.TheVariants as text_marks
@@ -86,7 +86,8 @@ attr_read members = do
 
 abbrev pub apply_read : Reader EditCommand
 apply_read members = do
-  ops ← required_member field.Ops ops_in members
+  exact ← optional_member field.Exact false as_bool members
+  ops ← required_member field.Ops (ops_in exact) members
   Ok (change.Apply ops)
 
 -- each with its word

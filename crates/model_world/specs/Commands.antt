@@ -94,7 +94,8 @@ erase_read members = do
 abbrev pub revoke_read : Reader Request
 revoke_read members = do
   entry ← required_member field.Entry number_in members
-  Ok (request.Revoke entry)
+  live ← optional_member field.Live false as_bool members
+  Ok (request.Revoke entry live)
 
 -- each with its word; those that a batch may hold stand last
 abbrev pub requests : List (List ℕ × Reader Request)

@@ -1,7 +1,7 @@
 -- How many steps a line may take. A step makes a node of a linked tree, lets one go, or writes one
 -- field of one. It is said by the nodes of the model's trees alone: how many a list's tree has, and
 -- how many a transaction touches.
-use Rattle.std.specs.Prelude.{ℕ, ◌+◌, ◌*◌, nat_le, nat_lt, Bool, true, false, ◌||◌, if◌then◌else◌, List, [], ◌∷◌, length, slice_get, Option, Some, None, Result, Ok, Err}
+use Rattle.std.specs.Prelude.{ℕ, ◌+◌, ◌*◌, nat_le, nat_lt, Bool, true, false, ◌||◌, if◌then◌else◌, List, [], ◌∷◌, length, map, slice_get, Option, Some, None, Result, Ok, Err}
 use Rattle.ve_base.specs.Limits.{max_line}
 use Rattle.model_items.specs.declared.plain_item.PlainItem.{PlainItem}
 use Rattle.model_items.specs.Cost.{cost_of_tree}
@@ -11,10 +11,9 @@ use Rattle.model_edit.specs.Lists.{indent, outdent}
 use Rattle.model_edit.specs.Tables.{row_in, row_out, col_in, col_out}
 use Rattle.model_edit.specs.declared.selection.Selection.{Selection}
 use Rattle.model_page.specs.PageItems.{Opened}
-use Rattle.model_site.specs.Entries.{Parcel}
 use Rattle.model_site.specs.Made.{redoing, revoking, taking_all, undoing}
 use Rattle.model_site.specs.Replica.{Replica, performed}
-use Rattle.model_site.specs.Session.{Ack, Foreign, Member, SiteFeed}
+use Rattle.model_site.specs.Session.{Ack, Foreign, Member, Session, SiteFeed}
 use Rattle.model_site.specs.Site.{Site}
 use Rattle.model_world.specs.declared.command.Command.{Command}
 use Rattle.model_world.specs.declared.command.Command.TheVariants.{OpenPage, Ask}
@@ -25,6 +24,7 @@ use Rattle.model_world.specs.declared.edit_command.EditCommand.TheVariants as ch
 use Rattle.model_world.specs.declared.refusal.Refusal.{Refusal}
 use Rattle.model_world.specs.Answers.{higher, lower, to_erase, typing}
 use Rattle.model_world.specs.Commands.{command}
+use Rattle.model_world.specs.Completed.{completed}
 use Rattle.model_world.specs.Edits.{change_on, checked_transaction}
 use Rattle.model_world.specs.Opening.{open_page}
 use Rattle.model_world.specs.Refusals.{list_refusal, refused_as, table_refusal}
@@ -59,26 +59,27 @@ taking (Foreign entries ∷ later) s = taking_all entries s
 taking (Ack accepted ∷ later) s = []
 
 -- a committed entry taken back, if the site has seen it
-abbrev pub revoking_seen : List Parcel → ℕ → Site → List Transaction
-revoking_seen committed i s = if nat_lt i s.seen then revoking committed i s else []
+abbrev pub revoking_seen : Session → ℕ → (live : Bool) → Site → List Transaction
+revoking_seen w i live s = if nat_lt i s.seen then revoking w.committed w.hints live i s else []
 
--- of a site, where so much is committed; a request that changes no list makes none
-abbrev pub made_by : List Parcel → Member → Request → List Transaction
-made_by committed m (request.Edit change) = made_of (change_on m.site.replica change)
-made_by committed m (request.Batch cmds) = made_in_turn m.site.replica cmds
-made_by committed m (request.TypeText text) = made_in_turn m.site.replica (typing m.site.replica.selection text)
-made_by committed m (request.Erase dir by) = erasing m.site.replica (to_erase m.site.replica dir by)
-made_by committed m request.Undo = undoing m.site.unsent
-made_by committed m request.Redo = redoing m.site.undone
-made_by committed m request.Take = taking m.feeds m.site
-made_by committed m (request.Revoke entry) = revoking_seen committed entry m.site
-made_by committed m (request.RowIn at row) = moving m.site.replica (refused_as table_refusal (row_in m.site.replica.items at row))
-made_by committed m (request.RowOut at row) = moving m.site.replica (refused_as table_refusal (row_out m.site.replica.items at row))
-made_by committed m (request.ColIn at column) = moving m.site.replica (refused_as table_refusal (col_in m.site.replica.items at column))
-made_by committed m (request.ColOut at column) = moving m.site.replica (refused_as table_refusal (col_out m.site.replica.items at column))
-made_by committed m (request.Indent at) = moving m.site.replica (refused_as list_refusal (indent m.site.replica.items at))
-made_by committed m (request.Outdent at) = moving m.site.replica (refused_as list_refusal (outdent m.site.replica.items at))
-made_by committed m _ = []
+-- of a site of a session, on a page that was first read as these items; a request that changes no
+-- list makes none
+abbrev pub made_by : (opened : List PlainItem) → Session → Member → Request → List Transaction
+made_by opened w m (request.Edit change) = made_of (change_on m.site.replica (completed opened change))
+made_by opened w m (request.Batch cmds) = made_in_turn m.site.replica (map (completed opened) cmds)
+made_by opened w m (request.TypeText text) = made_in_turn m.site.replica (typing m.site.replica.selection text)
+made_by opened w m (request.Erase dir by) = erasing m.site.replica (to_erase m.site.replica dir by)
+made_by opened w m request.Undo = undoing m.site.unsent
+made_by opened w m request.Redo = redoing m.site.undone
+made_by opened w m request.Take = taking m.feeds m.site
+made_by opened w m (request.Revoke entry live) = revoking_seen w entry live m.site
+made_by opened w m (request.RowIn at row) = moving m.site.replica (refused_as table_refusal (row_in m.site.replica.items at row))
+made_by opened w m (request.RowOut at row) = moving m.site.replica (refused_as table_refusal (row_out m.site.replica.items at row))
+made_by opened w m (request.ColIn at column) = moving m.site.replica (refused_as table_refusal (col_in m.site.replica.items at column))
+made_by opened w m (request.ColOut at column) = moving m.site.replica (refused_as table_refusal (col_out m.site.replica.items at column))
+made_by opened w m (request.Indent at) = moving m.site.replica (refused_as list_refusal (indent m.site.replica.items at))
+made_by opened w m (request.Outdent at) = moving m.site.replica (refused_as list_refusal (outdent m.site.replica.items at))
+made_by opened w m _ = []
 
 -- ---- the copy of the page, so that a line is done whole or not at all
 
@@ -99,23 +100,23 @@ is_on_copy _ feeds ts = nat_le 2 (length ts)
 abbrev pub cost_of_made : Bool → List Transaction → List PlainItem → ℕ
 cost_of_made on_copy ts items = (if on_copy then cost_of_tree items else 0) + cost_of_transactions ts items
 
-abbrev pub cost_of_request : List Parcel → Member → Request → ℕ
-cost_of_request committed m r = let ts = made_by committed m r in cost_of_made (is_on_copy r m.feeds ts) ts m.site.replica.items
+abbrev pub cost_of_request : (opened : List PlainItem) → Session → Member → Request → ℕ
+cost_of_request opened w m r = let ts = made_by opened w m r in cost_of_made (is_on_copy r m.feeds ts) ts m.site.replica.items
 
 -- a page that is opened for so many sites: a tree for each
 abbrev pub cost_of_opening : ℕ → Result Opened Refusal → ℕ
 cost_of_opening sites (Err refusal) = 0
 cost_of_opening sites (Ok page) = sites * cost_of_tree page.items
 
-abbrev pub cost_at : List Parcel → Request → Option Member → ℕ
-cost_at committed r None = 0
-cost_at committed r (Some m) = cost_of_request committed m r
+abbrev pub cost_at : (opened : List PlainItem) → Session → Request → Option Member → ℕ
+cost_at opened w r None = 0
+cost_at opened w r (Some m) = cost_of_request opened w m r
 
 abbrev pub cost_of_command : World → Result Command Refusal → ℕ
 cost_of_command w (Err refusal) = 0
 cost_of_command w (Ok (OpenPage page sites)) = cost_of_opening sites (open_page page)
 cost_of_command Closed (Ok (Ask r k)) = 0
-cost_of_command (Open page session) (Ok (Ask r k)) = cost_at session.committed r (slice_get session.members k)
+cost_of_command (Open page session) (Ok (Ask r k)) = cost_at page.items session r (slice_get session.members k)
 
 -- a line that is too long costs nothing, as does one that is refused before it makes anything
 abbrev pub cost : World → List ℕ → ℕ

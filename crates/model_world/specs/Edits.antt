@@ -27,7 +27,7 @@ use Rattle.model_world.specs.declared.edit_command.OpWords.TheVariants as op
 use Rattle.model_world.specs.declared.edit_command.EditCommand.{EditCommand}
 use Rattle.model_world.specs.declared.edit_command.EditCommand.TheVariants as change
 use Rattle.model_world.specs.declared.refusal.Refusal.{Refusal}
-use Rattle.model_world.specs.declared.refusal.Refusal.TheVariants.{BadOffset, BadLength, TooManyMarks}
+use Rattle.model_world.specs.declared.refusal.Refusal.TheVariants.{BadOffset, BadLength, BadOrigin, TooManyMarks}
 use Rattle.model_world.specs.Refusals.{refused_as, html_refusal, build_refusal, edit_refusal}
 
 abbrev pub built_transaction : Result Transaction BuildCause → Result Transaction Refusal
@@ -99,6 +99,7 @@ change_of items (change.Wrap from to plan) = built_transaction (wrap items from 
 change_of items (change.Convert at kind) = built_transaction (convert items at kind)
 change_of items (change.Attr at name to) = built_transaction (attribute items at name to)
 change_of items (change.Apply ops) = transaction_of_ops items ops
+change_of items (change.NoOrigin origin) = Err (BadOrigin origin)
 
 abbrev pub unless_faulty : Option EditCause → Transaction → Result Transaction Refusal
 unless_faulty None t = Ok t

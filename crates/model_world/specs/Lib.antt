@@ -9,6 +9,7 @@ pub mod Commands
 pub mod Shown
 pub mod Spelled
 pub mod Refusals
+pub mod Completed
 pub mod Edits
 pub mod Opening
 pub mod Answers

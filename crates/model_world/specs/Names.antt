@@ -33,6 +33,7 @@ field_name field.UnwrapEach = codes "unwrap_each"
 field_name field.WrapEach = codes "wrap_each"
 field_name field.Kind = codes "kind"
 field_name field.Name = codes "name"
+field_name field.Exact = codes "exact"
 field_name field.Ops = codes "ops"
 field_name field.Cmds = codes "cmds"
 field_name field.Anchor = codes "anchor"
@@ -43,6 +44,7 @@ field_name field.Keep = codes "keep"
 field_name field.Row = codes "row"
 field_name field.Column = codes "column"
 field_name field.Entry = codes "entry"
+field_name field.Live = codes "live"
 
 -- an element kind has the name of its tag
 abbrev pub kind_name : Kind → List ℕ

@@ -11,10 +11,10 @@ use Rattle.model_world.specs.Attributes.{name_in}
 use Rattle.model_world.specs.ItemWords.{all_items_in}
 
 -- `{"remove":n,"insert":items}`
-abbrev pub removal_in : Members → Data → Option OpWords
-removal_in members counted = do
+abbrev pub removal_in : (exact : Bool) → Members → Data → Option OpWords
+removal_in exact members counted = do
   count ← number_in counted
-  insert ← member_in (codes "insert") all_items_in members
+  insert ← member_in (codes "insert") (all_items_in exact) members
   Some (Remove count insert)
 
 -- `{"attr":name,"to":text or null}`
@@ -25,15 +25,15 @@ setting_in members = do
   Some (Attr name to)
 
 -- by the first of `retain`, `remove` and `attr` that is there
-abbrev pub op_by : Members → Option Data → Option Data → Option OpWords
-op_by written (Some retained) removed = option_map (λ count. Retain count) (number_in retained)
-op_by written None (Some removed) = removal_in written removed
-op_by written None None = setting_in written
+abbrev pub op_by : (exact : Bool) → Members → Option Data → Option Data → Option OpWords
+op_by exact written (Some retained) removed = option_map (λ count. Retain count) (number_in retained)
+op_by exact written None (Some removed) = removal_in exact written removed
+op_by exact written None None = setting_in written
 
-abbrev pub op_in : Data → Option OpWords
-op_in json = do
+abbrev pub op_in : (exact : Bool) → Data → Option OpWords
+op_in exact json = do
   members ← as_object json
-  op_by members (get_member (codes "retain") members) (get_member (codes "remove") members)
+  op_by exact members (get_member (codes "retain") members) (get_member (codes "remove") members)
 
 -- The normal form, as of transactions. No two retains or removals are neighbours. The attributes
 -- set at one position have different names and are followed by a retain.
@@ -56,5 +56,6 @@ abbrev pub words_are_normal : List OpWords → Bool
 words_are_normal [] = true
 words_are_normal (op ∷ ops) = word_is_something op && (word_may_precede op ops && words_are_normal ops)
 
-abbrev pub ops_in : Data → Option (List OpWords)
-ops_in json = such_that words_are_normal (list_in op_in json)
+-- where `exact`, their items stand for those that a reply shows
+abbrev pub ops_in : (exact : Bool) → Data → Option (List OpWords)
+ops_in exact json = such_that words_are_normal (list_in (op_in exact) json)

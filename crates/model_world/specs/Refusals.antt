@@ -1,17 +1,18 @@
 -- The refusal that a cause is answered by. What a line removes is the list's own: an item that
 -- differs is never asked for, and has the word of a full store.
-use Rattle.std.specs.Prelude.{Result, Ok, Err}
+use Rattle.std.specs.Prelude.{ℕ, Result, Ok, Err}
 use Rattle.model_spelling.specs.Faults.{ForestFault}
 use Rattle.model_spelling.specs.Faults as forest
 use Rattle.model_page.specs.Limits.{Limit}
 use Rattle.model_page.specs.Limits as limit
 use Rattle.model_page.specs.OpenPage.{OpenFault}
 use Rattle.model_page.specs.OpenPage as opening
-use Rattle.model_change.specs.Join.{RangeConflict}
 use Rattle.model_edit.specs.Causes.{BuildCause, TableCause, ListCause}
 use Rattle.model_edit.specs.Causes as edits
 use Rattle.model_site.specs.Causes.{EditCause, UndoCause, RedoCause, SendCause}
 use Rattle.model_site.specs.Causes as sites
+use Rattle.model_site.specs.Live.{RevokeCause}
+use Rattle.model_site.specs.Live as live
 use Rattle.model_world.specs.declared.refusal.HtmlWord.TheVariants as word
 use Rattle.model_world.specs.declared.refusal.Refusal.{Refusal}
 use Rattle.model_world.specs.declared.refusal.Refusal.TheVariants as refusal
@@ -93,6 +94,7 @@ abbrev pub send_refusal : SendCause → Refusal
 send_refusal (sites.InFlight entries) = refusal.InFlight entries
 send_refusal sites.NothingToSend = refusal.NothingToSend
 
--- the later entry's range, and the reversal's
-abbrev pub revoke_refusal : RangeConflict → Refusal
-revoke_refusal clash = refusal.RevokeConflict clash.committed clash.mine
+-- of entry i: the one that took it back, or the later entry's range and the reversal's
+abbrev pub revoke_refusal : (i : ℕ) → RevokeCause → Refusal
+revoke_refusal i (live.TakenBack by) = refusal.TakenBack i by
+revoke_refusal i (live.Conflict clash) = refusal.RevokeConflict clash.committed clash.mine

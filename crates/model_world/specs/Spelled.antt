@@ -44,6 +44,7 @@ refusal_text (refusal.NotWrapped at) = with_numbers (codes "not_wrapped") (at �
 refusal_text (refusal.NotBranch at) = with_numbers (codes "not_branch") (at ∷ [])
 refusal_text (refusal.NotOpening at) = with_numbers (codes "not_opening") (at ∷ [])
 refusal_text (refusal.BadAttr at) = with_numbers (codes "bad_attr") (at ∷ [])
+refusal_text (refusal.BadOrigin origin) = with_numbers (codes "bad_origin") (origin ∷ [])
 refusal_text (refusal.BadLength has needs) = with_numbers (codes "bad_length") (has ∷ needs ∷ [])
 refusal_text (refusal.Unlawful at) = with_numbers (codes "unlawful") (at ∷ [])
 refusal_text refusal.NothingToUndo = codes "nothing_to_undo"
@@ -64,6 +65,7 @@ refusal_text (refusal.NotListItem at) = with_numbers (codes "not_list_item") (at
 refusal_text (refusal.NoSibling at) = with_numbers (codes "no_sibling") (at ∷ [])
 refusal_text (refusal.NotNested at) = with_numbers (codes "not_nested") (at ∷ [])
 refusal_text (refusal.BadEntry entry seen) = with_numbers (codes "bad_entry") (entry ∷ seen ∷ [])
+refusal_text (refusal.TakenBack entry by) = with_numbers (codes "taken_back") (entry ∷ by ∷ [])
 refusal_text (refusal.RevokeConflict later reversal) =
     with_numbers (codes "revoke_conflict") (later.0 ∷ later.1 ∷ reversal.0 ∷ reversal.1 ∷ [])
 

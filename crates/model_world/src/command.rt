@@ -58,8 +58,9 @@ pub enum Request {
     Indent { at: usize },
     /// `outdent`: a list item moved one list out.
     Outdent { at: usize },
-    /// `revoke`: takes a committed entry back, though later ones stand on it.
-    Revoke { entry: usize },
+    /// `revoke`: takes a committed entry back, though later ones stand on it. Where `live`, what
+    /// took each other back doesn't stand in the way.
+    Revoke { entry: usize, live: bool },
 }
 
 /// The command of a line, after VisualEditor's commands on a surface. The words and members are

@@ -85,6 +85,11 @@ pub enum EditCommand {
     Apply {
         ops: OpWordList,
     },
+    /// An `apply` with an origin that the page doesn't have, or has of another kind. No line is read
+    /// as this; it is refused.
+    NoOrigin {
+        origin: usize,
+    },
 }
 
 /// Changes, to be made in turn.

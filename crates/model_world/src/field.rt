@@ -41,6 +41,8 @@ pub enum Field {
     Kind,
     /// The name of an attribute.
     Name,
+    /// Whether items stand for those that were first read.
+    Exact,
     /// The operations of a transaction.
     Ops,
     /// The changes of a batch.
@@ -61,4 +63,6 @@ pub enum Field {
     Column,
     /// The number of a committed entry, from 0.
     Entry,
+    /// Whether an entry is taken back under those alone that still count.
+    Live,
 }

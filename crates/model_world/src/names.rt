@@ -31,6 +31,7 @@ pub fn field_name(field: Field) -> &'static str
         Field::WrapEach => "wrap_each",
         Field::Kind => "kind",
         Field::Name => "name",
+        Field::Exact => "exact",
         Field::Ops => "ops",
         Field::Cmds => "cmds",
         Field::Anchor => "anchor",
@@ -41,6 +42,7 @@ pub fn field_name(field: Field) -> &'static str
         Field::Row => "row",
         Field::Column => "column",
         Field::Entry => "entry",
+        Field::Live => "live",
     }
 }
 

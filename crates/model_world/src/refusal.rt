@@ -104,6 +104,10 @@ pub enum Refusal {
     BadAttr {
         at: usize,
     },
+    /// The page has no such origin, or it is of an opening of another kind.
+    BadOrigin {
+        origin: usize,
+    },
     /// The list has `has` items, and the operations need `needs`.
     BadLength {
         has: usize,
@@ -180,6 +184,11 @@ pub enum Refusal {
     BadEntry {
         entry: usize,
         seen: usize,
+    },
+    /// Entry `by` took the entry back.
+    TakenBack {
+        entry: usize,
+        by: usize,
     },
     /// A later entry conflicts with what takes the entry back. The ranges are theirs.
     RevokeConflict {

@@ -1,5 +1,5 @@
 -- A change that is allowed, made ready with an entry.
-use Rattle.std.proofs.Common.{◌≡◌, ◌≤◌, List, [], ◌∷◌, length, map, All, sym, ap, ◌∙◌, subst}
+use Rattle.std.proofs.Common.{◌≡◌, ◌≤◌, List, [], ◌∷◌, None, length, map, All, sym, ap, ◌∙◌, subst}
 use Rattle.ve_base.specs.declared.value.Value.{Value}
 use Rattle.model_items.specs.declared.item.Item.{Item}
 use Rattle.model_items.specs.declared.plain_item.PlainItem.{PlainItem}
@@ -35,9 +35,9 @@ allowed_as d old new items others change same allowed = subst (λ l. IsAllowed d
 
 pub may_perform : (d : Draft) (old new : List Value) (list : ItemList) (items : List Item) (linked : Tree) (change : Change) (p : Performing) → list.items ≡ items →
     IsAllowed d old new items change → come_count change.splices.items ≤ list.spare → p.change ≡ change → IsTreeOfAfter linked d.tx list.items →
-    map (by_value new) p.entry.txs ≡ filled_on new d.tx list.items ∷ [] → p.entry.store_before ≡ length old → p.entry.store_after ≡ length new → All (TxCites new) p.entry.txs →
+    map (by_value new) p.entry.txs ≡ filled_on new d.tx list.items ∷ [] → p.entry.store_before ≡ length old → p.entry.store_after ≡ length new → p.entry.takes_back ≡ None → All (TxCites new) p.entry.txs →
     MayPerform d old new list linked p
-may_perform d old new list items linked change p same allowed room is tree txs before after cites =
+may_perform d old new list items linked change p same allowed room is tree txs before after takes_back cites =
     let a = subst (IsAllowed d old new list.items) (sym is) (allowed_as d old new items list.items change same allowed) in
     let splices = p.change.splices.items in
     record {
@@ -53,5 +53,6 @@ may_perform d old new list items linked change p same allowed room is tree txs b
       txs = txs ∙ ap (λ f. f ∷ []) (over_new d old new list.items p.change a filled);
       store_before = before;
       store_after = after;
+      takes_back = takes_back;
       cites = cites;
     }

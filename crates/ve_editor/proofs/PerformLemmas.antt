@@ -52,7 +52,7 @@ module _ (d : Draft) (store new : List Value) (items : List Item) (selected : Se
   entry_is =
       let txs = may.txs ∙ ap (λ l. filled (drafted store d) (plain_list store l) ∷ []) same in
       let after = may.store_after ∙ ap length grown in
-      λ i. record { txs = txs i; store_before = may.store_before i; store_after = after i }
+      λ i. record { txs = txs i; store_before = may.store_before i; store_after = after i; takes_back = may.takes_back i }
 
 pub put_back_is : (t : Transaction) (store new : List Value) (items committed : List Item) (selected moved : Selection) (list : ItemList) (linked : Tree) (change : Change) →
     IsReadyBack t store new list linked change → list.items ≡ items → committed ≡ spliced_by list.items change.splices.items →

@@ -31,7 +31,7 @@ pub record IsDraftOf (store : List Value) (d : Draft) : Type 0 where
 
 -- an entry by value
 abbrev pub entry_by_value : List Value → KeptEntry → Entry
-entry_by_value store e = record { txs = map (by_value store) e.txs; store_before = e.store_before; store_after = e.store_after }
+entry_by_value store e = record { txs = map (by_value store) e.txs; store_before = e.store_before; store_after = e.store_after; takes_back = e.takes_back }
 
 -- the items of the entry's transactions cite values of the store
 abbrev pub EntryCites : List Value → KeptEntry → Type 0

@@ -60,6 +60,7 @@ pub record MayPerform (d : Draft) (old new : List Value) (list : ItemList) (link
   pub txs : (entry_by_value new performing.entry).txs ≡ filled (drafted old d) (plain_list old list.items) ∷ []
   pub store_before : performing.entry.store_before ≡ length old
   pub store_after : performing.entry.store_after ≡ length new
+  pub takes_back : performing.entry.takes_back ≡ None
   pub cites : EntryCites new performing.entry
 
 -- a transaction of a reversal is ready, and the store has the heads that it changes

@@ -3,7 +3,7 @@ ghost use Rattle.std.specs.Prelude.{◌≡◌, ◌≢◌, ◌≤◌, ◌+◌, []
 ghost use Rattle.model_items.specs.Law.{Lawful};
 ghost use Rattle.model_items.specs.Plain.{plain_list, AreDistinct, CitesWell};
 ghost use Rattle.model_edit.specs.Translate.{between};
-ghost use Rattle.model_site.specs.Entries.{cut_back, entry_of, reverted};
+ghost use Rattle.model_site.specs.Entries.{cut_back, entry_against, entry_of, reverted};
 ghost use Rattle.model_site.specs.Refused.{edit_cause};
 ghost use Rattle.model_change.specs.Fault.{Applies};
 ghost use Rattle.model_change.specs.Inverse.{filled};
@@ -439,7 +439,8 @@ impl Editor {
             self.new.nodes) }
         ensures entry { IfOk result (λ entry.
             entry_by_value self.new.store entry
-            ≡ entry_of (parcel_by_value parcel.now) (replica_of self.old)) }
+            ≡ entry_against parcel.now.entry.takes_back (parcel_by_value parcel.now)
+            (replica_of self.old)) }
         ensures cites { IfOk result (EntryCites self.new.store) }
         ensures kept { OnErr result (IsUnchanged self.old self.new) }
         ensures counted { steps.old ≤ steps.new }
@@ -452,6 +453,7 @@ impl Editor {
             txs,
             store_before,
             store_after: self.store.len(),
+            takes_back: parcel.entry.takes_back,
         })
     }
 

@@ -1,7 +1,7 @@
 // Entries performed and taken back in place, where an `Err` may leave a part done: on an editor that
 // is let go then, as a copy is.
 ghost use Rattle.std.specs.Prelude.{◌≡◌, ◌≤◌, ◌+◌, All, map, IfOk, OnOk};
-ghost use Rattle.model_site.specs.Entries.{entry_of, reverted};
+ghost use Rattle.model_site.specs.Entries.{entry_against, reverted};
 ghost use Rattle.model_site.specs.Replica.{all_filled, all_performed, all_put_back};
 ghost use Rattle.ve_tx.specs.ByValue.{parcel_by_value, ParcelCites};
 ghost use Rattle.ve_tx.specs.Cites.{TxCites};
@@ -93,7 +93,8 @@ impl Editor {
             self.new.nodes) }
         ensures entry { IfOk result (λ entry.
             entry_by_value self.new.store entry
-            ≡ entry_of (parcel_by_value parcel.now) (replica_of self.old)) }
+            ≡ entry_against parcel.now.entry.takes_back (parcel_by_value parcel.now)
+            (replica_of self.old)) }
         ensures cites { IfOk result (EntryCites self.new.store) }
         ensures counted { steps.old ≤ steps.new }
         ensures steps { steps.new
@@ -109,6 +110,7 @@ impl Editor {
             txs,
             store_before,
             store_after: self.store.len(),
+            takes_back: parcel.entry.takes_back,
         })
     }
 

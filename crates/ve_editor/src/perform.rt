@@ -84,6 +84,7 @@ fn entry_of(
         map (by_value store.now) entry.txs ≡ filled_on store.now tx.now list.now.items ∷ []) }
     ensures before { IfOk result (λ entry. entry.store_before ≡ store_before) }
     ensures after { IfOk result (λ entry. entry.store_after ≡ length store.now) }
+    ensures takes_back { IfOk result (λ entry. entry.takes_back ≡ None) }
     ensures cites { IfOk result (λ entry. All (TxCites store.now) entry.txs) }
 {
     let txs = one_filled(alloc, list, store, tx)?;
@@ -91,6 +92,7 @@ fn entry_of(
         txs,
         store_before,
         store_after: store.len(),
+        takes_back: None,
     })
 }
 
@@ -116,6 +118,7 @@ pub fn with_entry<L: Ledger>(
         ≡ filled_on store.now tx.now list.now.items ∷ []) }
     ensures before { IfOk result (λ ready. ready.entry.store_before ≡ store_before) }
     ensures after { IfOk result (λ ready. ready.entry.store_after ≡ length store.now) }
+    ensures takes_back { IfOk result (λ ready. ready.entry.takes_back ≡ None) }
     ensures cites { IfOk result (λ ready. All (TxCites store.now) ready.entry.txs) }
     ensures change { IfOk result (λ ready. ready.change ≡ change) }
     ensures tree { OnOk result (IsTreeOfAfter tree.new tx.now list.now.items) }

@@ -1,3 +1,4 @@
 mod UndoneLemmas
 mod RunLemmas
 mod RevokeExamples
+mod CountingLemmas

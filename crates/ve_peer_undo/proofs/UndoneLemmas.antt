@@ -73,14 +73,14 @@ length-reversal (t ∷ ts) =
 -- as many transactions, and all else as it was
 pub back_outline : (parcel : Parcel) (back : List (List Operation)) (n : ℕ) (values : List Value) → length parcel.entry.txs ≤ n →
     BackSoFar parcel.values parcel.entry.txs back n → values ≡ parcel.values →
-    outline (record { entry = record { txs = back; store_before = parcel.entry.store_before; store_after = parcel.entry.store_after }; values = values }) ≡ outline parcel
+    outline (record { entry = record { txs = back; store_before = parcel.entry.store_before; store_after = parcel.entry.store_after; takes_back = parcel.entry.takes_back }; values = values }) ≡ outline parcel
 back_outline parcel back n values end so_far e =
     let v = parcel.values in
     let txs = parcel.entry.txs in
     let count : length back ≡ length txs =
     sym (length-map back (by_value v)) ∙ ap length (back_made v txs back n end so_far) ∙ length-reversal (map (by_value v) txs) ∙ length-map txs (by_value v) in
     let rest : ℕ → List Value → ℕ × Parcel =
-    λ m vs. (m, record { entry = record { txs = []; store_before = parcel.entry.store_before; store_after = parcel.entry.store_after }; values = vs }) in
+    λ m vs. (m, record { entry = record { txs = []; store_before = parcel.entry.store_before; store_after = parcel.entry.store_after; takes_back = parcel.entry.takes_back }; values = vs }) in
     ap (λ m. rest m values) count ∙ ap (λ vs. rest (length txs) vs) e
 
 -- ---- joined over later ones

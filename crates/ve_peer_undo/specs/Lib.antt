@@ -4,3 +4,4 @@ pub use Rattle.ve_rebase.specs.Entries
 pub use Rattle.ve_rebase.specs.Lists
 pub mod Refusal
 pub mod Laws
+pub mod Counting

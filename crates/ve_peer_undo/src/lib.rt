@@ -16,8 +16,10 @@
 
 mod fault;
 mod laws;
+mod live;
 mod undo;
 
-pub use fault::RevokeFault;
+pub use fault::{LiveFault, RevokeFault};
 pub use laws::entries_are_taken_back;
+pub use live::live_reversal;
 pub use undo::reversal;

@@ -34,6 +34,7 @@ fn inverse_of(alloc: Global, parcel: &Parcel) -> Result<Parcel, Memory>
             txs: back,
             store_before: parcel.entry.store_before,
             store_after: parcel.entry.store_after,
+            takes_back: parcel.entry.takes_back,
         },
         values: parcel.values.copy(alloc)?,
     })
@@ -66,7 +67,7 @@ fn over_later(alloc: Global, later: &[Parcel], back: &Parcel) -> Result<Parcel, 
 }
 
 /// The parcel that takes back entry `i` under all later ones: it runs on the list that all entries
-/// make. It has as many transactions as the entry, and keeps its values and both numbers.
+/// make. It has as many transactions as the entry, and keeps all else of it.
 ///
 /// `Conflict` comes exactly where a later entry conflicts with it, and names the first two ranges
 /// that do.

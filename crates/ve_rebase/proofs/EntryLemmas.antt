@@ -129,10 +129,10 @@ gathered_all parcels i all end h = subst (λ l. GatheredSoFar (operations_of l) 
 
 -- a parcel with other transactions, as many
 pub same_outline : (p : Parcel) (txs : List (List Operation)) (values : List Value) (all : List Shifted) → AreWritten txs all → map operations all ≡ p.entry.txs → values ≡ p.values →
-    outline (record { entry = record { txs = txs; store_before = p.entry.store_before; store_after = p.entry.store_after }; values = values }) ≡ outline p
+    outline (record { entry = record { txs = txs; store_before = p.entry.store_before; store_after = p.entry.store_after; takes_back = p.entry.takes_back }; values = values }) ≡ outline p
 same_outline p txs values all h kept e =
     let n : length txs ≡ length p.entry.txs = written-length txs all h ∙ (sym (length-map all operations) ∙ ap length kept) in
-    let made : ℕ → List Value → ℕ × Parcel = λ m v. (m, record { entry = record { txs = []; store_before = p.entry.store_before; store_after = p.entry.store_after }; values = v }) in
+    let made : ℕ → List Value → ℕ × Parcel = λ m v. (m, record { entry = record { txs = []; store_before = p.entry.store_before; store_after = p.entry.store_after; takes_back = p.entry.takes_back }; values = v }) in
     ap (λ m. made m values) n ∙ ap (λ v. made (length p.entry.txs) v) e
 
 -- how far the parcels are made, and which are left

@@ -228,7 +228,7 @@ all_meet foreign entries all h run = record {
 
 pub entry_written : (e : Entry) (all : List Shifted) (txs : List (List Operation)) → map operations all ≡ e.txs → AreWritten txs all →
     ((values : List Value) → All (TxCites values) (map operations all) → All (TxCites values) txs) →
-    IsWrittenInto e all (record { txs = txs; store_before = e.store_before; store_after = e.store_after })
+    IsWrittenInto e all (record { txs = txs; store_before = e.store_before; store_after = e.store_after; takes_back = e.takes_back })
 entry_written e all txs kept w cites = record {
   written = w;
   outline_kept = λ values. same_outline (over_values values e) txs values all w kept refl;

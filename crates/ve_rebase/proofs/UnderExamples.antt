@@ -22,7 +22,7 @@ abbrev plainly : List ℕ → List PlainItem
 plainly = map (λ c. plain.Char c [])
 
 abbrev entry : List Operation → Entry
-entry tx = record { txs = tx ∷ []; store_before = 2; store_after = 3 }
+entry tx = record { txs = tx ∷ []; store_before = 2; store_after = 3; takes_back = Some 1 }
 
 -- b and c go from abcde
 abbrev theirs : Parcel
@@ -59,7 +59,7 @@ none_after_a_conflict : (more : Parcel) (moved : Entry) → AreUnder theirs (put
 none_after_a_conflict more moved h = let n = ap length (h.kept []) in cc
 
 -- all but the transactions stays, and of these the number
-number_stays : outline theirs ≡ (1, record { entry = record { txs = []; store_before = 2; store_after = 3 }; values = [] })
+number_stays : outline theirs ≡ (1, record { entry = record { txs = []; store_before = 2; store_after = 3; takes_back = Some 1 }; values = [] })
 number_stays = refl
 
 values_are_put_beside : (values : List Value) → all_over values (puts_x ∷ puts_y ∷ []) ≡ record { entry = puts_x; values = values } ∷ over_values values puts_y ∷ []

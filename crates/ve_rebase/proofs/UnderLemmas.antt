@@ -33,12 +33,12 @@ found (x ∷ es) (suc i) e is = found es i e is
 pub under_joined : (over more after more_after : List Shifted) (mine : Entry) (txs : List (List Operation)) → AreWritten mine.txs more → All IsShifted more →
     map operations more ≡ mine.txs → AreRows over more after more_after → AreWritten txs more_after →
     ((values : List Value) → All (TxCites values) (map operations more_after) → All (TxCites values) txs) →
-    IsJoinedUnder over mine after (record { txs = txs; store_before = mine.store_before; store_after = mine.store_after })
+    IsJoinedUnder over mine after (record { txs = txs; store_before = mine.store_before; store_after = mine.store_after; takes_back = mine.takes_back })
 under_joined over more after more_after mine txs k i kept rows q cites =
     let own : map operations more_after ≡ mine.txs = rows.mine_kept ∙ kept in
     record {
       joined = λ values.
-          entry_joined over more after more_after (over_values values mine) (over_values values (record { txs = txs; store_before = mine.store_before; store_after = mine.store_after }))
+          entry_joined over more after more_after (over_values values mine) (over_values values (record { txs = txs; store_before = mine.store_before; store_after = mine.store_after; takes_back = mine.takes_back }))
           k i rows q (same_outline (over_values values mine) txs values more_after q own refl) (λ h. cites values (subst (All (TxCites values)) (sym own) h));
       kept = rows.kept;
     }

@@ -111,6 +111,7 @@ fn entry_with(alloc: Global, entry: &Entry, all: &[Shifted<'_>]) -> Result<Entry
         txs: written(alloc, all)?,
         store_before: entry.store_before,
         store_after: entry.store_after,
+        takes_back: entry.takes_back,
     })
 }
 

@@ -40,6 +40,7 @@ pub fn parcel_with(alloc: Global, parcel: &Parcel, all: &[Shifted<'_>]) -> Resul
             txs: written(alloc, all)?,
             store_before: parcel.entry.store_before,
             store_after: parcel.entry.store_after,
+            takes_back: parcel.entry.takes_back,
         },
         values: parcel.values.copy(alloc)?,
     })
@@ -68,7 +69,7 @@ fn parcels_with(
 }
 
 /// An entry joined with committed ones: these as they are after mine, and mine as it is after them.
-/// Each parcel keeps its values and both numbers, and has as many transactions as before.
+/// Each parcel keeps all but its transactions, and has as many of these as before.
 ///
 /// The transactions of all committed entries are joined with those of mine as `lists` joins them,
 /// with the same refusal, but each entry cites its own values.

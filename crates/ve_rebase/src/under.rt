@@ -66,6 +66,7 @@ fn joined_under(
         txs,
         store_before: mine.store_before,
         store_after: mine.store_after,
+        takes_back: mine.takes_back,
     })
 }
 

@@ -2,20 +2,21 @@
 use Rattle.std.proofs.Common.{◌≡◌, ℕ, zero, suc, ◌+◌, ◌-◌, ◌<◌, ◌≤◌, List, [], ◌∷◌, ◌++◌, length, map, take, drop, set, get_or, replicate, Option, Some, None, Bor, option_map, ◌↔◌, refl, sym, ap, subst, ◌∙◌, arith}
 use Rattle.std.specs.Option.{IfSome, IsSome, option_copied}
 use Rattle.std.proofs.lemmas.Grind.{replicate_next}
-use Rattle.std.proofs.lemmas.List.{map-set, map-append, get_or-map, take_all, take-append-drop, drop_all, append-nil, drop-map, length-drop}
+use Rattle.std.proofs.lemmas.List.{map-set, map-append, get_or-map, take_all, take-append-drop, drop_all, append-nil, drop-map, length-drop, length-map}
 use Rattle.model_change.specs.Replay.{flattened}
-use Rattle.model_site.specs.Entries.{Parcel}
+use Rattle.model_site.specs.Entries.{Hints, Parcel}
 use Rattle.model_site.specs.Site.{Submission}
 use Rattle.model_site.specs.Joined.{join_entries}
 use Rattle.model_site.specs.Session.{SiteFeed, feed_for, accepted_of}
 use Rattle.ve_tx.specs.declared.parcel.Parcel.{Parcel as SentParcel}
 use Rattle.ve_tx.specs.ByValue.{parcel_by_value}
-use Rattle.ve_rebase.specs.Entries.{parcels_by_value}
+use Rattle.ve_rebase.specs.Entries.{outline, parcels_by_value}
 use Rattle.ve_rebase.specs.Lists.{RunFromOneLength}
 use Rattle.ve_rebase.specs.Until.{joined_until}
 use Rattle.ve_server.specs.declared.feed.Feed.{Feed}
 use Rattle.ve_server.specs.Fed.{feed_of}
 use Rattle.ve_server.specs.Serving.{Serving, all_queued, first_of, first_feed, after_serving}
+use Rattle.ve_server.specs.Travelling.{Travelling, travel_with, travelling}
 use Rattle.ve_server.specs.Waiting.{Waiting, feeds_in, released, all_staged}
 
 flattened_by_value : (ps : List SentParcel) → parcels_by_value ps ≡ flattened (map parcel_by_value ps)
@@ -36,10 +37,32 @@ may_join base ps ms committed entries e f run =
     subst (λ xs. RunFromOneLength xs (parcels_by_value ms)) (sym (committed_since base ps committed e))
     (subst (RunFromOneLength (flattened (drop base committed))) (sym (flattened_by_value ms ∙ ap flattened f)) run)
 
-pub is_accepted : (base : ℕ) (ps ms : List SentParcel) (committed entries : List Parcel) → map parcel_by_value ps ≡ committed → map parcel_by_value ms ≡ entries →
-    joined_until (take (length ps - base) (drop base ps)) ms ≡ accepted_of committed (record { base = base; entries = entries })
-is_accepted base ps ms committed entries e f =
+pub is_accepted : (base : ℕ) (ps ms : List SentParcel) (committed entries : List Parcel) (taken : Hints) → map parcel_by_value ps ≡ committed → map parcel_by_value ms ≡ entries →
+    joined_until (take (length ps - base) (drop base ps)) ms ≡ accepted_of committed (record { base = base; entries = entries; hints = taken })
+is_accepted base ps ms committed entries taken e f =
     ap (λ xs. join_entries xs (map parcel_by_value ms)) (committed_since base ps committed e) ∙ ap (join_entries (flattened (drop base committed))) f
+
+-- what parcels take back, by what stays of them
+of_outlines : (ps qs : List SentParcel) → map outline ps ≡ map outline qs → (travelling ps).hints ≡ (travelling qs).hints
+of_outlines ps qs e = sym (told ps) ∙ (ap (map (λ (o : ℕ × SentParcel). o.1.entry.takes_back)) e ∙ told qs)
+  where
+    told : (rs : List SentParcel) → map (λ (o : ℕ × SentParcel). o.1.entry.takes_back) (map outline rs) ≡ (travelling rs).hints
+    told [] = refl
+    told (r ∷ rs) = ap (λ hs. r.entry.takes_back ∷ hs) (told rs)
+
+first_hints : (n : ℕ) (ps : List SentParcel) → (travelling (take n ps)).hints ≡ take n (travelling ps).hints
+first_hints zero ps = refl
+first_hints (suc n) [] = refl
+first_hints (suc n) (p ∷ ps) = ap (λ hs. p.entry.takes_back ∷ hs) (first_hints n ps)
+
+pub kept_hints : (made sent : Travelling) (kept mine : List SentParcel) → made ≡ travelling kept → travelling mine ≡ sent →
+    map outline kept ≡ map outline (take (length kept) mine) → made.hints ≡ take (length made.entries) sent.hints
+kept_hints made sent kept mine is of e =
+    ap (λ t. t.hints) is
+    ∙ (of_outlines kept (take (length kept) mine) e
+    ∙ (first_hints (length kept) mine
+    ∙ (ap (λ n. take n (travelling mine).hints) (sym (length-map kept parcel_by_value) ∙ ap (λ t. length t.entries) (sym is))
+    ∙ ap (λ t. take (length made.entries) t.hints) of)))
 
 -- ---- staging
 
@@ -108,13 +131,13 @@ all_ready n ready feeds e =
     ap (λ fs. record { feeds = fs; staged = map feed_of (drop n feeds) }) all
     ∙ ap (λ fs. record { feeds = map feed_of (take ready feeds) ++ map feed_of (drop ready feeds); staged = fs }) none
 
-pub is_fed : (k : ℕ) (committed : List Parcel) (ws : List Waiting) (v w : Waiting) (next : Option SiteFeed) → k < length ws → v ≡ get_or ws k v →
+pub is_fed : (k : ℕ) (committed : List Parcel) (taken : Hints) (ws : List Waiting) (v w : Waiting) (next : Option SiteFeed) → k < length ws → v ≡ get_or ws k v →
     (next, w.feeds) ≡ first_of v.feeds →
-    ◌≡◌ {A = Option SiteFeed × Serving} (next, record { committed = committed; queues = feeds_in (set ws k w) }) (first_feed k (record { committed = committed; queues = feeds_in ws }))
-is_fed k committed ws v w next lt read e =
+    ◌≡◌ {A = Option SiteFeed × Serving} (next, record { committed = committed; hints = taken; queues = feeds_in (set ws k w) }) (first_feed k (record { committed = committed; hints = taken; queues = feeds_in ws }))
+is_fed k committed taken ws v w next lt read e =
     let there : v.feeds ≡ get_or (feeds_in ws) k [] = ap (λ q. q.feeds) read ∙ sym (get_or-map (λ (q : Waiting). q.feeds) ws k v [] lt) in
-    let left : Option SiteFeed × List SiteFeed → Option SiteFeed × Serving = λ r. (r.0, record { committed = committed; queues = set (feeds_in ws) k r.1 }) in
-    ap (λ qs. (next, record { committed = committed; queues = qs })) (map-set (λ (q : Waiting). q.feeds) ws k w) ∙ ap left (e ∙ ap first_of there)
+    let left : Option SiteFeed × List SiteFeed → Option SiteFeed × Serving = λ r. (r.0, record { committed = committed; hints = taken; queues = set (feeds_in ws) k r.1 }) in
+    ap (λ qs. (next, record { committed = committed; hints = taken; queues = qs })) (map-set (λ (q : Waiting). q.feeds) ws k w) ∙ ap left (e ∙ ap first_of there)
 
 -- the first feed of the deque, where one is ready
 pub first_lent : (r : Option (Bor Feed)) (ready n : ℕ) (feeds : List Feed) → 0 < ready → ready ≤ length feeds → n ≡ length feeds → (IsSome r ↔ (0 < n)) →
@@ -124,9 +147,9 @@ first_lent r (suc k) n [] some within count is at = absurd (omega (arith, within
 first_lent None (suc k) n (f ∷ fs) some within count is at = let e = is.1 (omega (arith, count)) in cc
 first_lent (Some x) (suc k) n (f ∷ fs) some within count is at = ap (λ y. Some (feed_of y)) at
 
-pub is_next : (k : ℕ) (committed : List Parcel) (ws : List Waiting) (v : Waiting) (next : Option SiteFeed) → k < length ws → v ≡ get_or ws k v →
-    next ≡ (first_of v.feeds).0 → next ≡ (first_feed k (record { committed = committed; queues = feeds_in ws })).0
-is_next k committed ws v next lt read e =
+pub is_next : (k : ℕ) (committed : List Parcel) (taken : Hints) (ws : List Waiting) (v : Waiting) (next : Option SiteFeed) → k < length ws → v ≡ get_or ws k v →
+    next ≡ (first_of v.feeds).0 → next ≡ (first_feed k (record { committed = committed; hints = taken; queues = feeds_in ws })).0
+is_next k committed taken ws v next lt read e =
     e ∙ ap (λ q. (first_of q).0) (ap (λ q. q.feeds) read ∙ sym (get_or-map (λ (q : Waiting). q.feeds) ws k v [] lt))
 
 pub one_more : (n : ℕ) (ws : List Waiting) (w : Waiting) → feeds_in ws ≡ replicate n [] → w.feeds ≡ [] → feeds_in (ws ++ w ∷ []) ≡ replicate (n + 1) []
@@ -135,11 +158,19 @@ one_more n ws w e f =
 
 -- ---- all queues
 
-pub is_served : (sender : ℕ) (s : Submission) (committed kept after : List Parcel) (old staged new : List Waiting) → kept ≡ (accepted_of committed s).kept →
-    after ≡ committed ++ kept → staged ≡ all_staged sender 0 kept old → new ≡ map released staged →
-    ◌≡◌ {A = Serving} (record { committed = after; queues = feeds_in new }) (after_serving sender s (record { committed = committed; queues = feeds_in old }))
-is_served sender s committed kept after old staged new k a f r =
-    let fed_all : List Parcel → Serving = λ more. record { committed = committed ++ more; queues = all_queued sender 0 more (feeds_in old) } in
-    ap (λ qs. record { committed = after; queues = feeds_in qs }) (r ∙ ap (map released) f)
-    ∙ (ap (λ cs. record { committed = cs; queues = feeds_in (map released (all_staged sender 0 kept old)) }) a
-    ∙ (ap (λ qs. record { committed = committed ++ kept; queues = qs }) (released_are_queued sender 0 kept old) ∙ ap fed_all k))
+pub is_served : (sender : ℕ) (s : Submission) (committed kept after : Travelling) (old staged new : List Waiting) →
+    kept.entries ≡ (accepted_of committed.entries s).kept → kept.hints ≡ take (length kept.entries) s.hints → after ≡ travel_with committed kept →
+    staged ≡ all_staged sender 0 kept.entries old → new ≡ map released staged →
+    ◌≡◌ {A = Serving} (record { committed = after.entries; hints = after.hints; queues = feeds_in new })
+    (after_serving sender s (record { committed = committed.entries; hints = committed.hints; queues = feeds_in old }))
+is_served sender s committed kept after old staged new k h a f r =
+    let fed_all : List Parcel → Serving = λ more. record {
+      committed = committed.entries ++ more;
+      hints = committed.hints ++ take (length more) s.hints;
+      queues = all_queued sender 0 more (feeds_in old);
+    } in
+    ap (λ qs. record { committed = after.entries; hints = after.hints; queues = feeds_in qs }) (r ∙ ap (map released) f)
+    ∙ (ap (λ (cs : Travelling). record { committed = cs.entries; hints = cs.hints; queues = feeds_in (map released (all_staged sender 0 kept.entries old)) }) a
+    ∙ (ap (λ hs. record { committed = committed.entries ++ kept.entries; hints = committed.hints ++ hs; queues = feeds_in (map released (all_staged sender 0 kept.entries old)) }) h
+    ∙ (ap (λ qs. record { committed = committed.entries ++ kept.entries; hints = committed.hints ++ take (length kept.entries) s.hints; queues = qs }) (released_are_queued sender 0 kept.entries old)
+    ∙ ap fed_all k)))

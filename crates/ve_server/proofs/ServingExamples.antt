@@ -22,17 +22,18 @@ first = inserts 2 65 3
 
 -- site 0 put a letter after two of five, which site 2 has not taken
 abbrev begun : Serving
-begun = record { committed = first ∷ []; queues = [] ∷ [] ∷ (Foreign (first ∷ []) ∷ []) ∷ [] }
+begun = record { committed = first ∷ []; hints = None ∷ []; queues = [] ∷ [] ∷ (Foreign (first ∷ []) ∷ []) ∷ [] }
 
 -- On the five letters site 1 puts one after the fourth, takes the second and the third out, and
 -- puts one at the end.
 abbrev three : Submission
-three = record { base = 0; entries = inserts 4 66 1 ∷ removes 1 (Char 98 [] ∷ Char 99 [] ∷ []) 3 ∷ inserts 4 67 0 ∷ [] }
+three = record { base = 0; entries = inserts 4 66 1 ∷ removes 1 (Char 98 [] ∷ Char 99 [] ∷ []) 3 ∷ inserts 4 67 0 ∷ []; hints = Some 0 ∷ None ∷ None ∷ [] }
 
 -- The first goes after the committed letter. The second takes out what stands round that, so it and
 -- the third are refused.
 one_of_three : after_serving 1 three begun ≡ record {
   committed = first ∷ inserts 5 66 1 ∷ [];
+  hints = None ∷ Some 0 ∷ [];
   queues = (Foreign (inserts 5 66 1 ∷ []) ∷ []) ∷ (Ack 1 ∷ []) ∷ (Foreign (first ∷ []) ∷ Foreign (inserts 5 66 1 ∷ []) ∷ []) ∷ [];
 }
 one_of_three = refl
@@ -41,9 +42,10 @@ told : served_as (accepted_of begun.committed three) three ≡ record { accepted
 told = refl
 
 -- made on the list with the committed letter, it conflicts with nothing
-later : after_serving 1 (record { base = 1; entries = removes 1 (Char 98 [] ∷ Char 65 [] ∷ []) 3 ∷ [] }) begun
+later : after_serving 1 (record { base = 1; entries = removes 1 (Char 98 [] ∷ Char 65 [] ∷ []) 3 ∷ []; hints = None ∷ [] }) begun
     ≡ record {
       committed = first ∷ removes 1 (Char 98 [] ∷ Char 65 [] ∷ []) 3 ∷ [];
+      hints = None ∷ None ∷ [];
       queues = (Foreign (removes 1 (Char 98 [] ∷ Char 65 [] ∷ []) 3 ∷ []) ∷ [])
           ∷ (Ack 1 ∷ [])
           ∷ (Foreign (first ∷ []) ∷ Foreign (removes 1 (Char 98 [] ∷ Char 65 [] ∷ []) 3 ∷ []) ∷ [])
@@ -52,8 +54,8 @@ later : after_serving 1 (record { base = 1; entries = removes 1 (Char 98 [] ∷ 
 later = refl
 
 -- where none is accepted, only the sender is told
-none_accepted : after_serving 2 (record { base = 0; entries = removes 1 (Char 98 [] ∷ Char 99 [] ∷ []) 2 ∷ [] }) begun
-    ≡ record { committed = first ∷ []; queues = [] ∷ [] ∷ (Foreign (first ∷ []) ∷ Ack 0 ∷ []) ∷ [] }
+none_accepted : after_serving 2 (record { base = 0; entries = removes 1 (Char 98 [] ∷ Char 99 [] ∷ []) 2 ∷ []; hints = None ∷ [] }) begun
+    ≡ record { committed = first ∷ []; hints = None ∷ []; queues = [] ∷ [] ∷ (Foreign (first ∷ []) ∷ Ack 0 ∷ []) ∷ [] }
 none_accepted = refl
 
 sender_is_told : all_queued 0 0 (first ∷ []) ([] ∷ (Ack 3 ∷ []) ∷ []) ≡ (Ack 1 ∷ []) ∷ (Ack 3 ∷ Foreign (first ∷ []) ∷ []) ∷ []
@@ -64,7 +66,7 @@ sender_is_told = refl
 first_in_first_out : first_of (Ack 1 ∷ Ack 2 ∷ []) ≡ (Some (Ack 1), Ack 2 ∷ [])
 first_in_first_out = refl
 
-fed_once : first_feed 2 begun ≡ (Some (Foreign (first ∷ [])), record { committed = first ∷ []; queues = [] ∷ [] ∷ [] ∷ [] })
+fed_once : first_feed 2 begun ≡ (Some (Foreign (first ∷ [])), record { committed = first ∷ []; hints = None ∷ []; queues = [] ∷ [] ∷ [] ∷ [] })
 fed_once = refl
 
 nothing_to_feed : first_feed 0 begun ≡ (None, begun)
@@ -75,7 +77,7 @@ nothing_to_feed = refl
 no_feed : (s : Site) → site_with (first_feed 0 begun).0 s ≡ s
 no_feed s = refl
 
-answered : (s : Site) → site_with (Some (Ack 1)) s ≡ record s { seen = s.seen + length s.sent; sent = []; undone = []; in_flight = None }
+answered : (s : Site) → site_with (Some (Ack 1)) s ≡ record s { seen = s.seen + length s.sent; sent = []; undone = []; undone_hints = []; in_flight = None }
 answered s = refl
 
 -- ---- staging

@@ -1,5 +1,5 @@
 -- Turns of a session, as what they do to the committed entries and the queues.
-use Rattle.std.proofs.Common.{◌≡◌, ℕ, zero, suc, List, [], ◌∷◌, ◌++◌, map, slice_get, slice_set, slice_index_or, Some, refl, sym, ap, ◌∙◌}
+use Rattle.std.proofs.Common.{◌≡◌, ℕ, zero, suc, List, [], ◌∷◌, ◌++◌, length, map, take, slice_get, slice_set, slice_index_or, Some, refl, sym, ap, ◌∙◌}
 use Rattle.model_site.specs.Entries.{Parcel}
 use Rattle.model_site.specs.Session.{Member, SiteFeed, all_fed, feed_for, put_member, accepted_of, take_first, site_after}
 use Rattle.model_site.specs.Events.{after_turn}
@@ -35,7 +35,7 @@ put_back (suc k) m (n ∷ ms) e = ap (λ qs. n.feeds ∷ qs) (put_back k m ms e)
 pub turns_serve : TurnsServe
 turns_serve k m s later w at =
     let kept = (accepted_of w.committed s).kept in
-    ap (λ qs. record { committed = w.committed ++ kept; queues = qs })
+    ap (λ qs. record { committed = w.committed ++ kept; hints = w.hints ++ take (length kept) s.hints; queues = qs })
     (all_are_queued k 0 kept (put_member k (record m { submissions = later }) w.members)
     ∙ ap (all_queued k 0 kept) (put_is_set k (record m { submissions = later }) w.members ∙ put_back k m w.members at))
 
@@ -43,13 +43,13 @@ pub turns_feed : TurnsFeed
 turns_feed k m w at = along m.feeds (got k m w.members at) (put_back k m w.members at)
   where
     left : List SiteFeed → Serving
-    left feeds = record { committed = w.committed; queues = slice_set (queues_of w.members) k (first_of feeds).1 }
+    left feeds = record { committed = w.committed; hints = w.hints; queues = slice_set (queues_of w.members) k (first_of feeds).1 }
 
     along : (feeds : List SiteFeed) → feeds_at k w.members ≡ feeds → slice_set (queues_of w.members) k feeds ≡ queues_of w.members →
         serving_of (after_turn w (take_first k m feeds w)) ≡ (first_feed k (serving_of w)).1
-    along [] e same = ap (λ qs. record { committed = w.committed; queues = qs }) (sym same) ∙ ap left (sym e)
+    along [] e same = ap (λ qs. record { committed = w.committed; hints = w.hints; queues = qs }) (sym same) ∙ ap left (sym e)
     along (f ∷ later) e same =
-        ap (λ qs. record { committed = w.committed; queues = qs }) (put_is_set k (record m { site = site_after f m.site; feeds = later }) w.members) ∙ ap left (sym e)
+        ap (λ qs. record { committed = w.committed; hints = w.hints; queues = qs }) (put_is_set k (record m { site = site_after f m.site; feeds = later }) w.members) ∙ ap left (sym e)
 
 site_is_set : (k : ℕ) (n : Member) (ms : List Member) → sites_of (put_member k n ms) ≡ slice_set (sites_of ms) k n.site
 site_is_set k n [] = refl

@@ -8,10 +8,10 @@ use Rattle.ve_server.specs.declared.feed.Feed.{Feed}
 use Rattle.ve_server.specs.declared.feed.Feed.TheVariants as feed
 
 abbrev pub submission_of : Submit → Submission
-submission_of s = record { base = s.base; entries = s.parcels }
+submission_of s = record { base = s.base; entries = s.parcels.entries; hints = s.parcels.hints }
 
 abbrev pub feed_of : Feed → SiteFeed
-feed_of (feed.Foreign entries) = model.Foreign entries
+feed_of (feed.Foreign parcels) = model.Foreign parcels.entries
 feed_of (feed.Ack accepted) = model.Ack accepted
 
 -- the feed, if there is one, as a list

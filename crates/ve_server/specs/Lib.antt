@@ -4,6 +4,7 @@ pub use Rattle.model_site.specs.Site
 pub use Rattle.model_site.specs.Session
 pub use Rattle.ve_rebase.specs.Entries
 pub use Rattle.ve_rebase.specs.Lists
+pub mod Travelling
 pub mod Fed
 pub mod Waiting
 pub mod Serving

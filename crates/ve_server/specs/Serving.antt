@@ -1,18 +1,20 @@
 -- The server by itself: the committed entries, and the queue to each site.
-use Rattle.std.specs.Prelude.{ℕ, suc, List, [], ◌∷◌, ◌++◌, map, slice_index_or, slice_set, Option, Some, None}
-use Rattle.model_site.specs.Entries.{Parcel}
+use Rattle.std.specs.Prelude.{ℕ, suc, List, [], ◌∷◌, ◌++◌, length, map, take, slice_index_or, slice_set, Option, Some, None}
+use Rattle.model_site.specs.Entries.{Hints, Parcel}
 use Rattle.model_site.specs.Site.{Submission}
 use Rattle.model_site.specs.declared.served.Served.{Served}
 use Rattle.model_site.specs.Session.{Session, SiteFeed, feed_for, accepted_of, served_as}
 
 pub record Serving : Type 0 where
   pub committed : List Parcel
+  -- what each of these takes back
+  pub hints : Hints
   -- the queue to each site, the first feed the next
   pub queues : List (List SiteFeed)
 
 -- a session's
 abbrev pub serving_of : Session → Serving
-serving_of w = record { committed = w.committed; queues = map (λ m. m.feeds) w.members }
+serving_of w = record { committed = w.committed; hints = w.hints; queues = map (λ m. m.feeds) w.members }
 
 -- the sender's queue gets how many entries were accepted, and each other one the entries, if there
 -- is one
@@ -23,7 +25,11 @@ all_queued sender k entries (feeds ∷ queues) = (feeds ++ feed_for sender k ent
 -- the accepted entries of a submission are committed, and each queue is fed
 abbrev pub after_serving : (sender : ℕ) → Submission → Serving → Serving
 after_serving sender s v = let j = accepted_of v.committed s in
-    record { committed = v.committed ++ j.kept; queues = all_queued sender 0 j.kept v.queues }
+    record {
+      committed = v.committed ++ j.kept;
+      hints = v.hints ++ take (length j.kept) s.hints;
+      queues = all_queued sender 0 j.kept v.queues;
+    }
 
 -- the answer to the sender
 abbrev pub answer_to : Submission → Serving → Served

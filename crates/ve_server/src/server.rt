@@ -1,5 +1,5 @@
 // The server.
-ghost use Rattle.std.specs.Prelude.{◌≡◌, ◌<◌, ◌≤◌, [], drop, length, map, option_copied, option_map, replicate, IfOk, OnOk, OnErr};
+ghost use Rattle.std.specs.Prelude.{◌≡◌, ◌<◌, ◌≤◌, [], drop, length, map, take, option_copied, option_map, replicate, IfOk, OnOk, OnErr};
 ghost use Rattle.model_change.specs.Replay.{flattened};
 ghost use Rattle.model_site.specs.Session.{accepted_of, clash_of, feed_for as model_feed_for};
 ghost use Rattle.ve_rebase.specs.Lists.{RunFromOneLength};
@@ -28,7 +28,11 @@ impl Model for Server {
 
     ghost Value = { Serving };
 
-    ghost view = { λ s. record { committed = s.committed; queues = feeds_in s.queues.items } };
+    ghost view = { λ s. record {
+      committed = s.committed.entries;
+      hints = s.committed.hints;
+      queues = feeds_in s.queues.items;
+    } };
 }
 
 /// A submission's entries joined over those committed since its base, up to the first conflict, and
@@ -38,13 +42,16 @@ fn accepted(
     committed: &Parcels,
     submit: &Submit,
 ) -> Result<(Parcels, Option<Clash>), Memory>
-    requires base { submit.now.base ≤ length committed.now }
-    requires run { RunFromOneLength (flattened (drop submit.now.base committed.now))
-        (flattened submit.now.parcels) }
+    requires base { submit.now.base ≤ length committed.now.entries }
+    requires run { RunFromOneLength (flattened (drop submit.now.base committed.now.entries))
+        (flattened submit.now.parcels.entries) }
     ensures kept { IfOk result (λ two.
-        two.0 ≡ (accepted_of committed.now (submission_of submit.now)).kept) }
+        two.0.entries
+        ≡ (accepted_of committed.now.entries (submission_of submit.now)).kept) }
+    ensures hints { IfOk result (λ two.
+        two.0.hints ≡ take (length two.0.entries) submit.now.parcels.hints) }
     ensures clash { IfOk result (λ two.
-        two.1 ≡ clash_of (accepted_of committed.now (submission_of submit.now)).clash) }
+        two.1 ≡ clash_of (accepted_of committed.now.entries (submission_of submit.now)).clash) }
 {
     let since = &committed.as_slice()[submit.base..];
     let JoinedEntries { kept, clash } = entries_over_list(alloc, since, submit.parcels.as_slice())?;
@@ -59,7 +66,8 @@ fn feed_for(
     site: usize,
     entries: &Parcels,
 ) -> Result<Option<Feed>, Memory>
-    ensures { IfOk result (λ feed. feeds_of feed ≡ model_feed_for sender site entries.now) }
+    ensures { IfOk result (λ feed.
+        feeds_of feed ≡ model_feed_for sender site entries.now.entries) }
 {
     if site == sender {
         return Ok(Some(Feed::Ack(entries.len())));
@@ -79,7 +87,8 @@ fn stage_all(
     entries: &Parcels,
 ) -> Result<(), Memory>
     ensures feeds { feeds_in queues.new ≡ feeds_in queues.old }
-    ensures staged { OnOk result (queues.new ≡ all_staged sender 0 entries.now queues.old) }
+    ensures staged { OnOk result (
+        queues.new ≡ all_staged sender 0 entries.now.entries queues.old) }
 {
     for site in 0..queues.len() {
         let feed = feed_for(alloc, sender, site, entries)?;
@@ -101,7 +110,7 @@ impl Server {
     /// A server of so many sites, which has no entry yet.
     pub fn new(alloc: Global, sites: usize) -> Result<Server, Memory>
         ensures { IfOk result (λ server.
-            server ≡ record { committed = []; queues = replicate sites [] }) }
+            server ≡ record { committed = []; hints = []; queues = replicate sites [] }) }
     {
         let mut queues = Vec::new(alloc);
         for _site in 0..sites {
@@ -115,7 +124,8 @@ impl Server {
 
     /// Lends the committed entries, in order.
     pub fn committed(&self) -> &Parcels
-        ensures { result.now ≡ self.now.committed }
+        ensures entries { result.now.entries ≡ self.now.committed }
+        ensures hints { result.now.hints ≡ self.now.hints }
     {
         &self.committed
     }
@@ -129,7 +139,7 @@ impl Server {
     pub fn serve(&mut self, submit: &Submit) -> Result<Served, Memory>
         requires base { submit.now.base ≤ length self.old.committed }
         requires run { RunFromOneLength (flattened (drop submit.now.base self.old.committed))
-            (flattened submit.now.parcels) }
+            (flattened submit.now.parcels.entries) }
         ensures server { OnOk result (
             self.new ≡ after_serving submit.now.site (submission_of submit.now) self.old) }
         ensures answer { IfOk result (λ answer.

@@ -26,3 +26,4 @@ pub mod EntryExamples
 pub mod CitesLemmas
 mod ApplyExamples
 mod OrderExamples
+pub mod KeptLemmas

@@ -1,5 +1,5 @@
 -- The view of a transaction, and its meaning by value.
-use Rattle.std.specs.Prelude.{◌≡◌, ℕ, true, List, [], ◌∷◌, map, Option, None}
+use Rattle.std.specs.Prelude.{◌≡◌, ℕ, zero, suc, Bool, true, false, List, [], ◌∷◌, map, Option, None}
 use Rattle.ve_base.specs.declared.value.Value.{Value}
 use Rattle.model_items.specs.declared.item.Item.{Item}
 use Rattle.model_items.specs.Plain.{plain_list}
@@ -50,3 +50,19 @@ by_value values = map (operation_by_value values)
 -- The normal form, whatever the values are.
 abbrev pub IsNormal : List Operation → Type 0
 IsNormal tx = (values : List Value) → is_normal (by_value values tx) ≡ true
+
+abbrev pub is_setting : Op → Bool
+is_setting (op.Attribute name from to) = true
+is_setting (op.Retain count) = false
+is_setting (op.Replace removed inserted) = false
+
+abbrev pub kept_by : Operation → Option ℕ
+kept_by (Attribute change) = change.kept
+kept_by (Retain count) = None
+kept_by (Replace removed inserted) = None
+
+-- the position that operation k keeps
+abbrev pub kept_at : List Operation → ℕ → Option ℕ
+kept_at [] k = None
+kept_at (o ∷ ops) zero = kept_by o
+kept_at (o ∷ ops) (suc k) = kept_at ops k

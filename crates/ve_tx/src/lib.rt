@@ -52,6 +52,7 @@ mod entry;
 mod filled;
 mod gathered;
 mod inverse;
+mod kept;
 mod lookup;
 mod making;
 mod many;

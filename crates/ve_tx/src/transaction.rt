@@ -1,5 +1,5 @@
 // Transactions in normal form.
-ghost use Rattle.std.specs.Prelude.{◌≡◌, ◌≤◌, ◌+◌, All, length, true, map, is_ok, Ok, IfOk, IfErr, OnOk, OnErr};
+ghost use Rattle.std.specs.Prelude.{◌≡◌, ◌<◌, ◌≤◌, ◌+◌, All, length, true, map, is_ok, Ok, IfOk, IfErr, OnOk, OnErr};
 ghost use Rattle.model_items.specs.Plain.{plain_list, CitesWell};
 ghost use Rattle.model_change.specs.Inverse.{inverse};
 ghost use Rattle.model_change.specs.Join.{active_range, core, with_ends};
@@ -9,7 +9,7 @@ ghost use Rattle.ve_tx.specs.Applied.{AppliesTo, IsOverActive, IsRestorableOn, U
 ghost use Rattle.ve_tx.specs.Changed.{IsRefusal, brought_count};
 ghost use Rattle.ve_tx.specs.Cites.{TxCites};
 ghost use Rattle.ve_tx.specs.Copied.{AreCopied, TransactionsAlike};
-ghost use Rattle.ve_tx.specs.Operation.{unkept, bare, by_value};
+ghost use Rattle.ve_tx.specs.Operation.{unkept, bare, by_value, kept_at};
 ghost use Rattle.ve_tx.specs.Parcel.{transaction_cited_in};
 ghost use Rattle.ve_tx.specs.Spliced.{AllCite, LieBetween, come_count};
 ghost use Rattle.ve_tx.specs.Taken.{HasRemoved};
@@ -20,6 +20,7 @@ use crate::copies::Copies;
 use crate::ends::with_ends;
 use crate::filled::filled;
 use crate::inverse::inverted;
+use crate::kept::kept_among;
 use crate::normal::is_normal;
 use crate::range::range_of;
 use crate::taken::CitedValues;
@@ -88,6 +89,15 @@ impl Transaction {
         ensures normal { IsNormal self.now }
     {
         self.ops.as_slice()
+    }
+
+    /// The position that operation `k` keeps: where the attribute is put that it adds, or stood that
+    /// it removes. Other operations keep none.
+    pub fn kept(&self, k: usize) -> Option<usize>
+        requires within { k < length self.now }
+        ensures { result ≡ kept_at self.now k }
+    {
+        kept_among(self.ops.as_slice(), self.kept.as_slice(), k)
     }
 
     /// The same transaction, citing copies of what it cites in the store.

@@ -15,7 +15,7 @@ pub returns-in-Ok-with_entry-clause-ok : goal.returns-in-Ok-with_entry-clause-ok
 returns-in-Ok-with_entry-clause-ok g c =
     may_perform c.args.draft.now c.args.store.now c.checked.new.store c.noted.new.list c.args.list.now.items c.with_entry.new.tree c.in_ok-change.change c.in-Ok-with_entry.ready (c.noted.ensures.items ∙ c.in_ok-change.ensures.items)
     c.in_ok-change.ensures.ok (omega (arith, c.in-Ok.ensures.owed)) c.in-Ok-with_entry.ensures.change c.in-Ok-with_entry.ensures.tree c.in-Ok-with_entry.ensures.txs
-    (c.in-Ok-with_entry.ensures.before ∙ c.len-before.ensures.count) c.in-Ok-with_entry.ensures.after c.in-Ok-with_entry.ensures.cites
+    (c.in-Ok-with_entry.ensures.before ∙ c.len-before.ensures.count) c.in-Ok-with_entry.ensures.after c.in-Ok-with_entry.ensures.takes_back c.in-Ok-with_entry.ensures.cites
 
 pub returns-in-Ok-with_entry-clause-steps : goal.returns-in-Ok-with_entry-clause-steps
 returns-in-Ok-with_entry-clause-steps g c =

@@ -16,7 +16,7 @@ pub returns-in-Ok-clause-ok : goal.returns-in-Ok-clause-ok
 returns-in-Ok-clause-ok g c =
     may_perform c.args.draft.now c.args.store.now c.checked.new.store c.checked.new.list c.args.list.now.items c.with_entry.new.tree c.in_ok-change.change c.in-Ok.ready c.in_ok-change.ensures.items
     c.in_ok-change.ensures.ok c.in_ok-change.ensures.room c.in-Ok.ensures.change c.in-Ok.ensures.tree c.in-Ok.ensures.txs
-    (c.in-Ok.ensures.before ∙ c.len-before.ensures.count) c.in-Ok.ensures.after c.in-Ok.ensures.cites
+    (c.in-Ok.ensures.before ∙ c.len-before.ensures.count) c.in-Ok.ensures.after c.in-Ok.ensures.takes_back c.in-Ok.ensures.cites
 
 pub returns-in-Ok-clause-numbers : goal.returns-in-Ok-clause-numbers
 returns-in-Ok-clause-numbers g c =

@@ -1,4 +1,5 @@
 use Rattle.model_change.proofs.ReversalLaw.{revoke_takes_back}
+use Rattle.ve_peer_undo.proofs.CountingLemmas.{earlier_do_not_count}
 use Rattle.ve_peer_undo.proofs.RunLemmas.{earlier_do_not_matter, revokes_run}
 use Rattle.ve_peer_undo.proofs.laws.entries_are_taken_back.Goals as goal
 
@@ -10,3 +11,6 @@ returns-clause-back c = revoke_takes_back
 
 pub returns-clause-later : goal.returns-clause-later
 returns-clause-later c = earlier_do_not_matter
+
+pub returns-clause-counting : goal.returns-clause-counting
+returns-clause-counting c = earlier_do_not_count

@@ -11,5 +11,5 @@ returns c =
     let queues = c.self.inside.queues.items in
     let count = ap (λ v. length v.queues) (sym c.self.view_is) ∙ length-map queues (λ (q : Waiting). q.feeds) in
     let within = subst (λ n. c.args.site < n) count c.requires in
-    is_fed c.args.site c.self.inside.committed queues c.index_mut.result.now c.pop.new.self (option_map feed_of c.pop.result) within c.index_mut.ensures.value c.pop.ensures
+    is_fed c.args.site c.self.inside.committed.entries c.self.inside.committed.hints queues c.index_mut.result.now c.pop.new.self (option_map feed_of c.pop.result) within c.index_mut.ensures.value c.pop.ensures
     ∙ ap (first_feed c.args.site) c.self.view_is

@@ -12,5 +12,5 @@ returns c =
     let queues = c.self.inside.queues.items in
     let count = ap (λ v. length v.queues) (sym c.self.view_is) ∙ length-map queues (λ (q : Waiting). q.feeds) in
     let within = subst (λ n. c.args.site < n) count c.requires in
-    is_next c.args.site c.self.inside.committed queues c.index.result.now (option_map feed_of (option_copied c.first.result)) within c.index.ensures c.first.ensures
+    is_next c.args.site c.self.inside.committed.entries c.self.inside.committed.hints queues c.index.result.now (option_map feed_of (option_copied c.first.result)) within c.index.ensures c.first.ensures
     ∙ ap (λ v. (first_feed c.args.site v).0) c.self.view_is
