@@ -8,6 +8,7 @@ pub mod PerformLemmas
 pub mod NeedLemmas
 pub mod AcceptLemmas
 pub mod BackLemmas
+pub mod OwnedLemmas
 pub mod StepLemmas
 pub mod ChainLemmas
 pub mod SiteLemmas
@@ -29,5 +30,7 @@ pub mod HintLemmas
 pub mod BeginLemmas
 pub mod ShownLemmas
 pub mod ToldLemmas
+pub mod TellLemmas
 pub mod QuietLemmas
 mod LawExamples
+mod StepExamples

@@ -1,12 +1,13 @@
 -- Laws of what counts of entries, over every list of entries: what took each other back leaves
 -- nothing.
-use Rattle.std.specs.Prelude.{◌≡◌, ◌<◌, ℕ, ◌+◌, List, [], ◌∷◌, ◌++◌, length, Some, None, Ok, Err}
+use Rattle.std.specs.Prelude.{◌≡◌, ◌<◌, ℕ, ◌+◌, Bool, true, false, ◌==◌, if◌then◌else◌, List, [], ◌∷◌, ◌++◌, length, Option, Some, None, Result, Ok, Err}
+use Rattle.std.specs.List.{AllByRecursion}
 use Rattle.model_items.specs.declared.plain_item.PlainItem.{PlainItem}
 use Rattle.model_change.specs.Transaction.{Transaction}
 use Rattle.model_change.specs.Join.{join_list}
 use Rattle.model_change.specs.Replay.{replay, AllRun, reversal, flattened, entry_at, made_before}
 use Rattle.model_site.specs.Entries.{Parcel}
-use Rattle.model_site.specs.Live.{Hinted, Standing, unhinted, hinted, all_standing, live, revoke_live}
+use Rattle.model_site.specs.Live.{Hinted, RevokeCause, Standing, unhinted, hinted, all_standing, live, revoke_live}
 use Rattle.model_site_law.specs.Sound.{Sound}
 
 -- the transactions of entry i, and the list before it
@@ -71,54 +72,64 @@ TakenBackCountsNoMore = (entries : List Hinted) (i : ℕ) (back : List Transacti
 
 -- ---- what one person takes back and makes again, in turns
 
--- one more entry; the newest one that counts, taken back; or the newest one that was taken back,
--- made again by taking back what took it back
+-- one more entry; one of somebody else, which takes nothing back; the newest of the person's entries
+-- that counts, taken back; or the newest one that was taken back, made again by taking back what
+-- took it back
 pub data Step : Type 0 where
   Make : (ts : List Transaction) → Step
+  Other : (ts : List Transaction) → Step
   Back : Step
   Again : Step
 
--- all entries; and of the person's own those that count, and those that took one back and count,
--- the newest first
+-- All entries. Of the person's own those that count, and those that took one back and count, the
+-- newest first. And the numbers of what others made.
 pub record Steps : Type 0 where
   pub entries : List Hinted
   pub made : List Standing
   pub taken : List Standing
+  pub others : List ℕ
 
 abbrev pub at_first : List Hinted → Steps
-at_first entries = record { entries = entries; made = []; taken = [] }
-
--- what takes it back
-abbrev pub against : Standing → Hinted
-against s = record { txs = reversal s.txs; takes_back = Some s.number }
+at_first entries = record { entries = entries; made = []; taken = []; others = [] }
 
 -- an entry as it counts behind these
 abbrev pub next_of : List Hinted → List Transaction → Standing
 next_of entries ts = record { number = length entries; txs = ts }
 
+abbrev pub with_entry_more : List Hinted → Option ℕ → List Transaction → List Hinted
+with_entry_more entries hint ts = entries ++ record { txs = ts; takes_back = hint } ∷ []
+
+-- The newest one is taken back, unless that is refused.
+abbrev pub back_by : Result (List Transaction) RevokeCause → (newest : Standing) (older : List Standing) → Steps → Steps
+back_by (Err cause) newest older s = s
+back_by (Ok back) newest older s = record {
+  entries = with_entry_more s.entries (Some newest.number) back;
+  made = older;
+  taken = next_of s.entries back ∷ s.taken;
+  others = s.others;
+}
+
 abbrev pub back_from : List Standing → Steps → Steps
 back_from [] s = s
-back_from (newest ∷ made) s = record {
-  entries = s.entries ++ against newest ∷ [];
-  made = made;
-  taken = next_of s.entries (reversal newest.txs) ∷ s.taken;
+back_from (newest ∷ older) s = back_by (revoke_live s.entries newest.number) newest older s
+
+abbrev pub again_by : Result (List Transaction) RevokeCause → (newest : Standing) (older : List Standing) → Steps → Steps
+again_by (Err cause) newest older s = s
+again_by (Ok back) newest older s = record {
+  entries = with_entry_more s.entries (Some newest.number) back;
+  made = next_of s.entries back ∷ s.made;
+  taken = older;
+  others = s.others;
 }
 
 abbrev pub again_from : List Standing → Steps → Steps
 again_from [] s = s
-again_from (newest ∷ taken) s = record {
-  entries = s.entries ++ against newest ∷ [];
-  made = next_of s.entries (reversal newest.txs) ∷ s.made;
-  taken = taken;
-}
+again_from (newest ∷ older) s = again_by (revoke_live s.entries newest.number) newest older s
 
 -- where one more entry is made, what was taken back before can't be made again
 abbrev pub stepped : Step → Steps → Steps
-stepped (Make ts) s = record {
-  entries = s.entries ++ record { txs = ts; takes_back = None } ∷ [];
-  made = next_of s.entries ts ∷ s.made;
-  taken = [];
-}
+stepped (Make ts) s = record { entries = with_entry_more s.entries None ts; made = next_of s.entries ts ∷ s.made; taken = []; others = s.others }
+stepped (Other ts) s = record { entries = with_entry_more s.entries None ts; made = s.made; taken = s.taken; others = length s.entries ∷ s.others }
 stepped Back s = back_from s.made s
 stepped Again s = again_from s.taken s
 
@@ -126,41 +137,48 @@ abbrev pub all_stepped : List Step → Steps → Steps
 all_stepped [] s = s
 all_stepped (step ∷ steps) s = all_stepped steps (stepped step s)
 
--- Nothing counts behind the newest one, so its reversal takes it back.
-pub record IsFree (entries : List Hinted) (newest : Standing) : Type 0 where
+abbrev pub is_among : List ℕ → ℕ → Bool
+is_among [] n = false
+is_among (m ∷ ms) n = if m == n then true else is_among ms n
+
+-- Behind the newest one nothing counts but what others made.
+pub record OthersCount (entries : List Hinted) (others : List ℕ) (newest : Standing) : Type 0 where
   pub own : own_of entries newest.number ≡ newest.txs
-  pub nothing : live entries newest.number ≡ Ok []
-  pub back : revoke_live entries newest.number ≡ Ok (reversal newest.txs)
+  pub standing : List Standing
+  pub counts : live entries newest.number ≡ Ok standing
+  pub theirs : AllByRecursion (λ (s : Standing). is_among others s.number ≡ true) standing
 
-abbrev pub NewestIsFree : List Hinted → List Standing → Type 0
-NewestIsFree entries [] = Unit {0}
-NewestIsFree entries (newest ∷ older) = IsFree entries newest
+abbrev pub OthersCountBehind : List Hinted → List ℕ → List Standing → Type 0
+OthersCountBehind entries others [] = Unit {0}
+OthersCountBehind entries others (newest ∷ older) = OthersCount entries others newest
 
--- Whatever entries were there before: nothing stands in the way of what one person takes back and
--- makes again, in whatever order and however often, while nobody else makes an entry.
-abbrev pub StepsAreFree : Type 0
-StepsAreFree = (first : List Hinted) (steps : List Step) →
-    let s = all_stepped steps (at_first first) in NewestIsFree s.entries s.made × NewestIsFree s.entries s.taken
+-- Whatever entries were there before: what one person takes back and makes again, in whatever order
+-- and however often, does not stand in the way of the next. Only what others made in between can.
+abbrev pub OwnStepsAreFree : Type 0
+OwnStepsAreFree = (first : List Hinted) (steps : List Step) →
+    let s = all_stepped steps (at_first first) in OthersCountBehind s.entries s.others s.made × OthersCountBehind s.entries s.others s.taken
 
--- the transactions that are made run on the list then
-abbrev pub MakeRuns : (base : List PlainItem) → Steps → Step → Type 0
-MakeRuns base s (Make ts) = AllRun ts (list_after s.entries base)
-MakeRuns base s _ = Unit {0}
+-- all transactions that are made run on the list then
+abbrev pub StepRuns : (base : List PlainItem) → Steps → Step → Type 0
+StepRuns base s (Make ts) = AllRun ts (list_after s.entries base)
+StepRuns base s (Other ts) = AllRun ts (list_after s.entries base)
+StepRuns base s _ = Unit {0}
 
-abbrev pub AllMakeRun : (base : List PlainItem) → Steps → List Step → Type 0
-AllMakeRun base s [] = Unit {0}
-AllMakeRun base s (step ∷ steps) = MakeRuns base s step × AllMakeRun base (stepped step s) steps
+abbrev pub AllStepsRun : (base : List PlainItem) → Steps → List Step → Type 0
+AllStepsRun base s [] = Unit {0}
+AllStepsRun base s (step ∷ steps) = StepRuns base s step × AllStepsRun base (stepped step s) steps
 
+-- Then so do all entries, with those that take back.
+abbrev pub StepsRun : Type 0
+StepsRun = (first : List Hinted) (steps : List Step) (base : List PlainItem) → Sound base → AllRun (flattened (unhinted first)) base →
+    AllStepsRun base (at_first first) steps → AllRun (flattened (unhinted (all_stepped steps (at_first first)).entries)) base
+
+-- Where nobody else made an entry, taking the newest one back gives the list before it.
 abbrev pub NewestGivesBack : (base : List PlainItem) → List Hinted → List Standing → Type 0
 NewestGivesBack base entries [] = Unit {0}
 NewestGivesBack base entries (newest ∷ older) = IsBefore entries newest.number base
 
--- Then all entries run, and taking the newest one back gives the list before it.
-pub record AllGiveBack (base : List PlainItem) (s : Steps) : Type 0 where
-  pub runs : AllRun (flattened (unhinted s.entries)) base
-  pub made : NewestGivesBack base s.entries s.made
-  pub taken : NewestGivesBack base s.entries s.taken
-
-abbrev pub StepsGiveBack : Type 0
-StepsGiveBack = (first : List Hinted) (steps : List Step) (base : List PlainItem) → Sound base → AllRun (flattened (unhinted first)) base →
-    AllMakeRun base (at_first first) steps → AllGiveBack base (all_stepped steps (at_first first))
+abbrev pub OwnStepsGiveBack : Type 0
+OwnStepsGiveBack = (first : List Hinted) (steps : List Step) (base : List PlainItem) → Sound base → AllRun (flattened (unhinted first)) base →
+    AllStepsRun base (at_first first) steps → (all_stepped steps (at_first first)).others ≡ [] →
+    let s = all_stepped steps (at_first first) in NewestGivesBack base s.entries s.made × NewestGivesBack base s.entries s.taken

@@ -1,14 +1,14 @@
 // Laws of sites and server, whatever happens. Each function does nothing, and its contract is a law
 // that is proved.
 ghost use Rattle.model_site_law.specs.Laws.{AckCounts, CommittedRun, EntriesJoin, EntriesRun, EntriesWithin, FirstReplicaOpens, FirstStoreIsDistinct, HintsStandBeside, JoinedUntilConflict, ListIsReplay, ListIsSound, LiveRevokeGivesBack, LiveRevokeIsWithout, OneList, RedoIsAccepted, RedoneIsAsBefore, RevokeLeavesOut, SeenIsCommitted, SitesStay, StoreHolds, StoreIsDistinct, UndoIsAccepted, UndoneAtOnce, UndoneIsFirst};
-ghost use Rattle.model_site_law.specs.LiveLaws.{LiveRevokeLeavesOut, NothingStandsAbove, StepsAreFree, StepsGiveBack, TakenBackCountsNoMore, WhatCountsIsAll};
+ghost use Rattle.model_site_law.specs.LiveLaws.{LiveRevokeLeavesOut, NothingStandsAbove, OwnStepsAreFree, OwnStepsGiveBack, StepsRun, TakenBackCountsNoMore, WhatCountsIsAll};
 ghost use Rattle.model_site_law.specs.SelectionLaws.{FirstSelectionStands, MovedStands, SelectionStands};
 ghost use Rattle.model_site_law.specs.MayHappen.{EditMayRun};
 ghost use Rattle.model_site_law.specs.ItemLaws.{ItemsKeep, RevocationsKeep};
 ghost use Rattle.model_site_law.specs.KeptLaws.{EventsKeep, HoldsAtFirst};
 ghost use Rattle.model_site_law.specs.StoreLaws.{StoreBegins};
 ghost use Rattle.model_site_law.specs.QuietLaws.{QuietSitesMeet, ServingLowers, TakingLowers};
-ghost use Rattle.model_site_law.specs.ViewLaws.{PatchesLead, ViewHolds};
+ghost use Rattle.model_site_law.specs.ViewLaws.{PatchesCount, PatchesLead, TellsWhatWasMade, ViewHolds};
 
 /// Entries are joined over committed transactions up to the first conflict. The transactions of
 /// those kept join as one list, and with the next entry's they have that conflict. So an entry is
@@ -110,11 +110,14 @@ pub fn taken_back_counts_no_more()
 {}
 
 /// A person makes entries, takes back the newest that counts, and makes again the newest that was
-/// taken back, in any order and however often. While nobody else makes an entry, nothing stands in
-/// the way: each is taken back by its reversal, which gives the list before it.
+/// taken back, in any order and however often; others make entries in between, which take nothing
+/// back. Then nothing of the person's own stands in the way of the next step: only what others made
+/// can. All entries run where those that are made do. Where nobody else made one, each is taken back,
+/// and the list before it is there again.
 pub fn steps_are_free()
-    ensures free { StepsAreFree }
-    ensures lists { StepsGiveBack }
+    ensures free { OwnStepsAreFree }
+    ensures runs { StepsRun }
+    ensures lists { OwnStepsGiveBack }
 {}
 
 /// There are as many hints as entries, of those committed, submitted, undone and known to a site. So
@@ -156,6 +159,14 @@ pub fn events_keep()
 pub fn views_hold()
     ensures lead { PatchesLead }
     ensures always { ViewHolds }
+{}
+
+/// A site tells the patches of the transactions that it made since it told last. They take out and
+/// put in as many items as those do, and one for each attribute that is set. Where there are over
+/// 1,000 patches, one stands for all.
+pub fn patches_count()
+    ensures count { PatchesCount }
+    ensures made { TellsWhatWasMade }
 {}
 
 /// A property that each opened and each inserted item has, and that setting an attribute keeps,
