@@ -3,3 +3,4 @@ mod RunLemmas
 mod RevokeExamples
 mod CountingLemmas
 mod AlikeLemmas
+mod EffectLemmas
