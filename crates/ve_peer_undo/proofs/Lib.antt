@@ -4,3 +4,4 @@ mod RevokeExamples
 mod CountingLemmas
 mod AlikeLemmas
 mod EffectLemmas
+mod CountedLemmas

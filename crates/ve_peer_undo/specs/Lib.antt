@@ -6,3 +6,4 @@ pub mod Refusal
 pub mod Laws
 pub mod Counting
 pub mod Alike
+pub mod Counted

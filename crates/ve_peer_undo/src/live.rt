@@ -1,12 +1,143 @@
 // An entry taken back under the entries after it that still count.
-ghost use Rattle.std.specs.Prelude.{◌≡◌, ◌<◌, All, Ok, Some, length, map, IfOk, IfErr};
+ghost use Rattle.std.specs.Prelude.{◌≡◌, ◌<◌, [], false, All, Ok, Some, length, map, IfOk, IfErr, OnOk};
+ghost use Rattle.model_change.specs.Replay.{reversal as reversal_of};
+ghost use Rattle.model_site.specs.Live.{all_standing, is_back, live_from, stand};
 ghost use Rattle.ve_tx.specs.ByValue.{parcel_by_value, ParcelCites};
+ghost use Rattle.ve_rebase.specs.Entries.{parcels_by_value};
+ghost use Rattle.ve_rebase.specs.Lists.{RunFromOneLength};
+ghost use Rattle.ve_peer_undo.specs.Counted.{AreKept, counted, EachMayLeave, IsLeft, IsStopped, IsTakenOut, position_of};
 ghost use Rattle.ve_peer_undo.specs.Counting.{hinted_parcel, revoke_first, RunFromPage};
 ghost use Rattle.ve_peer_undo.specs.Refusal.{IsLiveRefusal};
 
+use crate::alike::have_one_effect;
+use crate::undo::{inverse_of, over_later};
 use crate::LiveFault;
 use std::alloc::Global;
-use ve_tx::Parcel;
+use std::mem::replace;
+use ve_base::{Memory, TryCopy};
+use ve_rebase::{RebaseFault, entry_over_list};
+use ve_tx::{Parcel, ParcelList};
+
+/// The entries after one, as they are where `back` takes that one back; nothing where it doesn't.
+fn left_without(
+    alloc: Global,
+    after: &ParcelList,
+    taken: &Parcel,
+    back: &Parcel,
+) -> Result<Option<ParcelList>, Memory>
+    requires after { All ParcelCites after.now }
+    requires taken { ParcelCites taken.now }
+    requires back { ParcelCites back.now }
+    requires run { RunFromOneLength (parcels_by_value after.now)
+        (reversal_of (parcel_by_value taken.now)) }
+    ensures { IfOk result (IsLeft after.now taken.now back.now) }
+{
+    let reversed = inverse_of(alloc, taken)?;
+    let (left, made) = match entry_over_list(alloc, after, &reversed) {
+        Ok(both) => both,
+        Err(RebaseFault::Conflict { .. }) => return Ok(None),
+        Err(RebaseFault::Memory) => return Err(Memory),
+    };
+    if !have_one_effect(&made, back) {
+        return Ok(None);
+    }
+    Ok(Some(left))
+}
+
+/// The first position of a number.
+fn position(numbers: &[usize], number: usize) -> Option<usize>
+    ensures { result ≡ position_of number numbers.now }
+{
+    for i in 0..numbers.len() {
+        if numbers[i] == number {
+            return Some(i);
+        }
+    }
+    None
+}
+
+/// Takes the entry of a number out of those that count, where `back` takes it back. Says whether it
+/// did.
+fn take_out(
+    alloc: Global,
+    numbers: &mut Vec<usize>,
+    parcels: &mut ParcelList,
+    number: usize,
+    back: &Parcel,
+) -> Result<bool, Memory>
+    requires kept { AreKept numbers.old.items parcels.old }
+    requires back { ParcelCites back.now }
+    requires run { EachMayLeave (counted numbers.old.items parcels.old) }
+    ensures taken { IfOk result (
+        IsTakenOut number (parcel_by_value back.now)
+        (counted numbers.old.items parcels.old) (counted numbers.new.items parcels.new)) }
+    ensures kept { OnOk result (AreKept numbers.new.items parcels.new) }
+{
+    let Some(at) = position(numbers.as_slice(), number) else {
+        return Ok(false);
+    };
+    let all = parcels.as_slice();
+    let after = ParcelList::copy_of(alloc, &all[at + 1..])?;
+    let Some(left) = left_without(alloc, &after, &all[at], back)? else {
+        return Ok(false);
+    };
+    numbers.remove(at);
+    let mut rest = replace(parcels, ParcelList::new(alloc)).into_vec();
+    rest.truncate(at);
+    rest.append(&mut left.into_vec())?;
+    *parcels = ParcelList::from_vec(rest);
+    Ok(true)
+}
+
+/// Goes past one more entry: it takes one of those back that count, or counts itself.
+fn pass(
+    alloc: Global,
+    numbers: &mut Vec<usize>,
+    parcels: &mut ParcelList,
+    number: usize,
+    entry: &Parcel,
+) -> Result<(), Memory>
+    requires kept { AreKept numbers.old.items parcels.old }
+    requires entry { ParcelCites entry.now }
+    requires run { EachMayLeave (counted numbers.old.items parcels.old) }
+    ensures passed { OnOk result (
+        counted numbers.new.items parcels.new
+        ≡ stand number (hinted_parcel entry.now) (counted numbers.old.items parcels.old)) }
+    ensures kept { OnOk result (AreKept numbers.new.items parcels.new) }
+{
+    if let Some(taken) = entry.entry.takes_back {
+        if take_out(alloc, numbers, parcels, taken, entry)? {
+            return Ok(());
+        }
+    }
+    numbers.push(number)?;
+    parcels.push(entry.copy(alloc)?)?;
+    Ok(())
+}
+
+/// Whether an entry takes the first one back.
+fn takes_first(
+    alloc: Global,
+    first: usize,
+    own: &Parcel,
+    entry: &Parcel,
+    numbers: &[usize],
+    parcels: &ParcelList,
+) -> Result<bool, Memory>
+    requires kept { AreKept numbers.now parcels.now }
+    requires own { ParcelCites own.now }
+    requires entry { ParcelCites entry.now }
+    requires run { RunFromOneLength (all_standing (counted numbers.now parcels.now))
+        (reversal_of (parcel_by_value own.now)) }
+    ensures { IfOk result (λ taken. taken
+        ≡ is_back first (parcel_by_value own.now) (hinted_parcel entry.now)
+        (counted numbers.now parcels.now)) }
+{
+    if entry.entry.takes_back != Some(first) {
+        return Ok(false);
+    }
+    Ok(left_without(alloc, parcels, own, entry)?.is_some())
+}
 
 /// The parcel that takes the first of these entries back, which has that number, under those behind
 /// it that still count: what took each other back leaves nothing. It runs on the list that all
