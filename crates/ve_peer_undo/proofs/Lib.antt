@@ -5,3 +5,5 @@ mod CountingLemmas
 mod AlikeLemmas
 mod EffectLemmas
 mod CountedLemmas
+mod PositionLemmas
+mod TakenOutLemmas

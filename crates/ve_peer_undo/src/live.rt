@@ -1,5 +1,5 @@
 // An entry taken back under the entries after it that still count.
-ghost use Rattle.std.specs.Prelude.{◌≡◌, ◌<◌, [], false, All, Ok, Some, length, map, IfOk, IfErr, OnOk};
+ghost use Rattle.std.specs.Prelude.{◌≡◌, ◌<◌, [], false, All, Ok, Some, length, map, IfOk, IfErr, IfSome, OnOk};
 ghost use Rattle.model_change.specs.Replay.{reversal as reversal_of};
 ghost use Rattle.model_site.specs.Live.{all_standing, is_back, live_from, stand};
 ghost use Rattle.ve_tx.specs.ByValue.{parcel_by_value, ParcelCites};
@@ -46,7 +46,8 @@ fn left_without(
 
 /// The first position of a number.
 fn position(numbers: &[usize], number: usize) -> Option<usize>
-    ensures { result ≡ position_of number numbers.now }
+    ensures first { result ≡ position_of number numbers.now }
+    ensures within { IfSome result (λ at. at < length numbers.now) }
 {
     for i in 0..numbers.len() {
         if numbers[i] == number {
