@@ -7,3 +7,4 @@ mod EffectLemmas
 mod CountedLemmas
 mod PositionLemmas
 mod TakenOutLemmas
+mod PassedLemmas
