@@ -39,9 +39,10 @@ in_flight = record {
   replica = page (codes "abcd");
   untold = none_untold 4;
   seen = 2;
-  sent = record { txs = puts 1 98 1 ∷ []; store_before = 0; store_after = 0 } ∷ [];
-  unsent = record { txs = puts 2 99 1 ∷ []; store_before = 0; store_after = 0 } ∷ [];
+  sent = record { txs = puts 1 98 1 ∷ []; store_before = 0; store_after = 0; takes_back = None } ∷ [];
+  unsent = record { txs = puts 2 99 1 ∷ []; store_before = 0; store_after = 0; takes_back = None } ∷ [];
   undone = [];
+  undone_hints = [];
   shared = 1;
   in_flight = Some 1;
 }
@@ -72,7 +73,7 @@ abbrev white : List ℕ → Value
 white = White
 
 abbrev numbered : (before after : ℕ) → Entry
-numbered before after = record { txs = []; store_before = before; store_after = after }
+numbered before after = record { txs = []; store_before = before; store_after = after; takes_back = None }
 
 numbers_rise : AreOver (white (codes " ") ∷ white (codes "  ") ∷ []) 0 (numbered 0 1 ∷ numbered 1 1 ∷ numbered 1 2 ∷ [])
 numbers_rise = (omega arith, omega arith, All-nil _, (omega arith, omega arith, All-nil _, (omega arith, omega arith, All-nil _, omega arith)))
@@ -88,8 +89,8 @@ by_fields : site_of (page []) (none_untold 2) 4 (numbered 0 0 ∷ []) (record { 
   replica = page [];
   untold = record { was = 2; patches = [] };
   seen = 4;
-  sent = record { txs = []; store_before = 0; store_after = 0 } ∷ [];
-  unsent = record { txs = []; store_before = 0; store_after = 1 } ∷ [];
+  sent = record { txs = []; store_before = 0; store_after = 0; takes_back = None } ∷ [];
+  unsent = record { txs = []; store_before = 0; store_after = 1; takes_back = Some 3 } ∷ [];
   undone = [];
   shared = 7;
   in_flight = None;
@@ -99,7 +100,7 @@ by_fields = refl
 -- ---- what a call performs
 
 abbrev one_more_unsent : Site
-one_more_unsent = record in_flight { unsent = record { txs = []; store_before = 0; store_after = 0 } ∷ in_flight.unsent }
+one_more_unsent = record in_flight { unsent = record { txs = []; store_before = 0; store_after = 0; takes_back = None } ∷ in_flight.unsent }
 
 the_last_is_taken_back : undoing one_more_unsent.unsent ≡ (Retain 2 ∷ Replace (letters (codes "c")) [] ∷ Retain 1 ∷ []) ∷ []
 the_last_is_taken_back = refl

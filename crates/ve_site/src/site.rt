@@ -4,7 +4,7 @@ ghost use Rattle.model_change.specs.Transaction.{Transaction, InsertedApart};
 ghost use Rattle.model_site.specs.Entries.{entry_of, parcels, reverted};
 ghost use Rattle.model_site.specs.Replica.{all_performed};
 ghost use Rattle.model_change.specs.Replay.{AllRun};
-ghost use Rattle.model_site.specs.Site.{Site as ModelSite, edit, pending, redo, send, starting, undo, told, with_entry, with_selection, with_told};
+ghost use Rattle.model_site.specs.Site.{Site as ModelSite, edit, pending, redo, send, starting, undo, told, with_entry_against, with_selection, with_told};
 ghost use Rattle.model_site_law.specs.Sound.{AllMayRun, Sound};
 ghost use Rattle.model_site_law.specs.SelectionLaws.{StandsIn};
 
@@ -342,7 +342,9 @@ impl Site {
         requires run { AllRun (parcel_by_value back.now) self.old.site.replica.items }
         ensures site { OnOk result (
             self.new
-            ≡ with_site (with_entry (parcel_by_value back.now) self.old.site) self.old) }
+            ≡ with_site (
+            with_entry_against back.now.entry.takes_back (parcel_by_value back.now) self.old.site)
+            self.old) }
         ensures kept { OnErr result (self.new ≡ self.old) }
         ensures counted { steps.old ≤ steps.new }
         ensures steps { steps.new
