@@ -4,7 +4,7 @@ use Rattle.std.proofs.lemmas.Bool.{eqb-true, eqb-false}
 use Rattle.std.proofs.lemmas.List.{map-append, append-nil, length-map}
 use Rattle.model_site.specs.Causes.{SendCause}
 use Rattle.model_site.specs.declared.site_fault.SendFault.TheVariants as fault
-use Rattle.model_site.specs.Entries.{hints, parcels}
+use Rattle.model_site.specs.Entries.{Hints, hints, parcels}
 use Rattle.model_site.specs.Entries.{Entry as ModelEntry, Parcel as ModelParcel}
 use Rattle.model_site.specs.Replica.{Replica}
 use Rattle.model_site.specs.Site.{Site, Submission, pending, send, send_unless}
@@ -68,6 +68,13 @@ module _ (editor : Replica) (untold : Untold) (seen : ℕ) (sent : List Entry) (
   pending_parcels first second f g =
       ap (λ ps. ps ++ second) f ∙ ap (λ ps. parcels (map (entry_by_value editor.store) sent) ++ ps) g
       ∙ sym (parcels-append (map (entry_by_value editor.store) sent) (map (entry_by_value editor.store) old.done))
+
+  -- and what they take back
+  pub pending_hints : (first second : Hints) → first ≡ hints (map (entry_by_value editor.store) sent) → second ≡ hints (map (entry_by_value editor.store) old.done) →
+      first ++ second ≡ hints (pending site)
+  pending_hints first second f g =
+      ap (λ hs. hs ++ second) f ∙ ap (λ hs. hints (map (entry_by_value editor.store) sent) ++ hs) g
+      ∙ sym (map-append (λ (e : ModelEntry). e.takes_back) (map (entry_by_value editor.store) sent) (map (entry_by_value editor.store) old.done))
 
   module _ (now : Stacks) (all : List Entry) (count total : ℕ) (sent_all : all ≡ sent ++ old.done) (done : now.done ≡ []) (undone : now.undone ≡ old.undone)
       (counted : count ≡ length old.done) (added : total ≡ shared + count) where
