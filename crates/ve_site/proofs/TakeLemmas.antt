@@ -69,6 +69,10 @@ module _ (editor : Replica) (untold : Untold) (seen : ℕ) (sent : List Entry) (
   kept : ks ≡ j.kept
   kept = sym (over_same editor.store made.kept) ∙ (under.kept editor.store ∙ ap (λ (x : Joined). x.kept) joined)
 
+  pub as_many : length made.kept ≡ length j.kept
+  as_many =
+      sym (length-map made.kept (entry_by_value editor.store)) ∙ (sym (length-map (map (entry_by_value editor.store) made.kept) (λ (e : ModelEntry). e.txs)) ∙ ap length kept)
+
   abbrev kept_hints : Hints
   kept_hints = hints (map (entry_by_value editor.store) made.kept)
 
@@ -82,10 +86,6 @@ module _ (editor : Replica) (untold : Untold) (seen : ℕ) (sent : List Entry) (
   kept_are : (n : ℕ) → parcel_entries n kept_hints ks ≡ parcel_entries n (hints (pending site)) j.kept
   kept_are n =
       ap (λ ps. parcel_entries n kept_hints ps) kept ∙ (ap (λ hs. parcel_entries n hs j.kept) first_hints ∙ hints_cut n (hints (pending site)) j.kept)
-
-  pub as_many : length made.kept ≡ length j.kept
-  as_many =
-      sym (length-map made.kept (entry_by_value editor.store)) ∙ (sym (length-map (map (entry_by_value editor.store) made.kept) (λ (e : ModelEntry). e.txs)) ∙ ap length kept)
 
   gone : map (entry_by_value editor.store) (drop (length made.kept) all) ≡ drop (length j.kept) (pending site)
   gone = sym (drop-map (entry_by_value editor.store) (length made.kept) all) ∙ (ap (drop (length made.kept)) together ∙ ap (λ n. drop n (pending site)) as_many)
