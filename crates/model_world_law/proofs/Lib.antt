@@ -24,3 +24,5 @@ mod StandingExamples
 pub mod CarriedLemmas
 pub mod ViewLemmas
 pub mod OverMarks
+pub mod AlikeLemmas
+pub mod AheadLemmas

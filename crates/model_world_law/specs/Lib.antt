@@ -7,3 +7,4 @@ pub mod ViewLines
 pub mod ShownLaws
 pub mod Redone
 pub mod Pasted
+pub mod AheadLaws

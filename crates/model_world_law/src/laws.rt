@@ -7,6 +7,7 @@ ghost use Rattle.model_world_law.specs.Pasted.{FragmentsAreChildren, PastingStay
 ghost use Rattle.model_world_law.specs.ShownLaws.{ShownIsRead};
 ghost use Rattle.model_world_law.specs.Redone.{LinesRedo};
 ghost use Rattle.model_world_law.specs.ViewLines.{LinesShow};
+ghost use Rattle.model_world_law.specs.AheadLaws.{LinesOfTwoSitesSwap};
 ghost use Rattle.model_world_law.specs.Reached.{EveryItemStands, EveryWorldIsReached, EverySiteHolds, QuietSitesMeet, SitesMeet, UneditedIsWrittenBack};
 
 use model_edit_law::fragment_stays_lawful;
@@ -101,6 +102,12 @@ pub fn lines_redo()
 /// the list.
 pub fn lines_show()
     ensures { LinesShow }
+{}
+
+/// Two lines that name two different sites may come in either order, unless the server has its turn
+/// in one of them and the other is a turn, too. Each has the same reply, and one world comes of them.
+pub fn lines_of_two_sites_swap()
+    ensures { LinesOfTwoSitesSwap }
 {}
 
 /// Sites that have seen as much, and have nothing pending, have one list, and so write one page.
