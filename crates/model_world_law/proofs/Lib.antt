@@ -26,3 +26,4 @@ pub mod ViewLemmas
 pub mod OverMarks
 pub mod AlikeLemmas
 pub mod AheadLemmas
+pub mod PutBackLemmas

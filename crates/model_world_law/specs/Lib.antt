@@ -8,3 +8,4 @@ pub mod ShownLaws
 pub mod Redone
 pub mod Pasted
 pub mod AheadLaws
+pub mod PutBack
