@@ -27,3 +27,4 @@ pub mod OverMarks
 pub mod AlikeLemmas
 pub mod AheadLemmas
 pub mod PutBackLemmas
+pub mod PutBackChange

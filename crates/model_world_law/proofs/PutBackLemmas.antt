@@ -233,7 +233,7 @@ origin_or : (origin : Option ℕ) → IsOrigin origin → read_or None some_numb
 origin_or None p = refl
 origin_or (Some n) p = ap (option_map (λ k. Some k)) (passes (λ k. nat_lt k 4294967296) n p)
 
-abbrev head_read : Kind → Head → Head
+abbrev pub head_read : Kind → Head → Head
 head_read kind head = if is_element kind then head else plain_head []
 
 module _ (kind : Kind) (head : Head) (marks : List Mark) (pre : List ℕ) (origin : Option ℕ) (generated : Bool) (outer : is_outer kind ≡ true)
