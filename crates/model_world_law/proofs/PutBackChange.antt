@@ -1,10 +1,11 @@
 -- What was read of items that were shown is completed to these items, and so a range that is removed
 -- and put back leaves the list as it is.
 use Rattle.std.proofs.Common.{◌≡◌, ℕ, zero, suc, ◌+◌, ◌-◌, ◌<◌, ◌≤◌, ◌==◌, nat_lt, Bool, true, false, not, ◌&&◌, ◌||◌, if◌then◌else◌, List, [], ◌∷◌, ◌++◌, length, map, take, drop, slice_range, Option, Some, None, Result, Ok, Err, refl, sym, ap, ◌∙◌, arith}
-use Rattle.std.specs.Prelude.{is_some}
+use Rattle.std.specs.Prelude.{codes, option_and_then, option_map}
 use Rattle.std.specs.List.{AllByRecursion}
 use Rattle.std.proofs.lemmas.Bool.{and_from, and_parts, eq-eqb, lt-ltb}
 use Rattle.std.proofs.lemmas.List.{take-append-drop}
+use Rattle.serde_json.specs.Data.{Data, no_members, object, put}
 use Rattle.ve_base.specs.declared.head.Head.{Head}
 use Rattle.ve_kinds.specs.declared.kind.Kind.{Kind}
 use Rattle.ve_kinds.specs.declared.kind.Kind.TheVariants.{P}
@@ -21,9 +22,14 @@ use Rattle.model_world.specs.declared.refusal.Refusal.{Refusal}
 use Rattle.model_world.specs.declared.refusal.Refusal.TheVariants.{BadLength}
 use Rattle.model_world.specs.Completed.{all_completed, completed, head_for, item_completed, op_completed, read_for}
 use Rattle.model_world.specs.Edits.{change_of, needs, ops_on}
-use Rattle.model_world.specs.Operations.{word_is_something, word_may_precede, words_are_normal}
-use Rattle.model_world_law.specs.PutBack.{CanPutBack, HasFirst, IsPutBack, PutBackStays, put_back, retained, without_head}
+use Rattle.model_world.specs.Operations.{op_in, word_is_something, words_are_normal}
+use Rattle.model_world.specs.ItemWords.{all_items_in}
+use Rattle.model_world.specs.Shown.{items_shown, json_number}
+use Rattle.model_world.specs.Values.{all_read, number_in, such_that}
+use Rattle.model_world_law.specs.PutBack.{CanPutBack, HasFirst, PutBackStays, put_back_shown, retained_shown, without_head}
 use Rattle.model_world_law.specs.ShownLaws.{plain_head}
+use Rattle.model_page.proofs.OnLiterals.{page_on_literals}
+use Rattle.model_world_law.proofs.ShownLemmas.{listed_back, passes}
 use Rattle.model_world_law.proofs.PutBackLemmas.{exact_is_read, head_read}
 
 -- ---- items completed
@@ -70,6 +76,51 @@ all_back opened (x ∷ xs) p f =
       | Ok done ↦ last done (all_completed (item_completed opened) (map without_head xs))
     ]) (one_back opened x p.0 f.0)
     ∙ ap (last x) (all_back opened xs p.1 f.1)
+
+-- ---- operations
+
+abbrev retained : ℕ → List OpWords
+retained zero = []
+retained (suc n) = Retain (suc n) ∷ []
+
+abbrev IsNumber : ℕ → Type 0
+IsNumber n = nat_lt n 4294967296 ≡ true
+
+number_back : (n : ℕ) → IsNumber n → number_in (json_number n) ≡ Some n
+number_back n p = passes (λ k. nat_lt k 4294967296) n p
+
+abbrev retain_shown : ℕ → Data
+retain_shown n = object (put (codes "retain") (json_number n) no_members)
+
+retain_back : (n : ℕ) → IsNumber n → op_in true (retain_shown n) ≡ Some (Retain n)
+unfolding page_on_literals
+retain_back n p = ap (option_map Retain) (number_back n p)
+
+abbrev replaced_shown : ℕ → List PlainItem → Data
+replaced_shown count range = object (put (codes "remove") (json_number count) (put (codes "insert") (items_shown range) no_members))
+
+replaced_back : (count : ℕ) (range read : List PlainItem) → IsNumber count → all_items_in true (items_shown range) ≡ Some read →
+    op_in true (replaced_shown count range) ≡ Some (Remove count read)
+unfolding page_on_literals
+replaced_back count range read p e =
+    let last : ℕ → Option (List PlainItem) → Option OpWords = λ n o. option_and_then (λ items. Some (Remove n items)) o in
+    ap (λ o. option_and_then (λ n. last n (all_items_in true (items_shown range))) o) (number_back count p) ∙ ap (last count) e
+
+-- values that are read as these operations
+abbrev Backs : List Data → List OpWords → Type 0
+Backs values ops = all_read (op_in true) values ≡ Some ops
+
+op_more : (json : Data) (values : List Data) (o : OpWords) (ops : List OpWords) → op_in true json ≡ Some o → Backs values ops → Backs (json ∷ values) (o ∷ ops)
+op_more json values o ops h b =
+    ap (λ x. option_and_then (λ y. option_map (λ ys. y ∷ ys) (all_read (op_in true) values)) x) h ∙ ap (option_map (λ ys. o ∷ ys)) b
+
+retained_more : (n : ℕ) (values : List Data) (ops : List OpWords) → IsNumber n → Backs values ops → Backs (retained_shown n ++ values) (retained n ++ ops)
+retained_more zero values ops p b = b
+retained_more (suc n) values ops p b = op_more (retain_shown (suc n)) values (Retain (suc n)) ops (retain_back (suc n) p) b
+
+retained_last : (n : ℕ) → IsNumber n → Backs (retained_shown n) (retained n)
+retained_last zero p = refl
+retained_last (suc n) p = op_more (retain_shown (suc n)) [] (Retain (suc n)) [] (retain_back (suc n) p) refl
 
 -- ---- operations completed
 
@@ -143,19 +194,26 @@ normal_from n count m read some = by n m (lt-ltb 0 (count + length read) (omega 
     by (suc n) (suc m) h = λ i. more n i && (true && (h i && (true && (more m i && (true && true)))))
 
 pub put_back_stays : PutBackStays
-put_back_stays opened items from to some within can first =
+put_back_stays opened items from to few some within can first =
     let range = slice_range items from to in
     let read = map without_head range in
     let count = to - from in
     let last = length items - to in
+    let ops = retained from ++ (Remove count read ∷ retained last) in
     let done = retained from ++ (Remove count range ∷ retained last) in
-    let whole : all_completed (op_completed opened) (put_back items from to read) ≡ Ok done =
+    let number : (n : ℕ) → n ≤ length items → IsNumber n = λ n less. lt-ltb n 4294967296 (omega (arith, less, few)) in
+    let whole : all_completed (op_completed opened) ops ≡ Ok done =
     retained_back opened from (Remove count read ∷ retained last) (Remove count range ∷ retained last) (removed_back opened count last read range (all_back opened range can first)) in
     let long : needs done ≡ length items = omega (arith, needs_more from (Remove count range ∷ retained last), needs_only last, some, within) in
+    let values : List Data = retained_shown from ++ (replaced_shown count range ∷ retained_shown last) in
+    let are : Backs values ops =
+    retained_more from (replaced_shown count range ∷ retained_shown last) (Remove count read ∷ retained last) (number from (omega (arith, some, within)))
+    (op_more (replaced_shown count range) (retained_shown last) (Remove count read) (retained last) (replaced_back count range read (number count (omega (arith, some, within))) (exact_is_read range can))
+    (retained_last last (number last (omega arith)))) in
     record {
-      read = read;
-      reads = exact_is_read range can;
-      normal = normal_from from count last read (omega (arith, some));
+      ops = ops;
+      reads = ap (λ xs. such_that words_are_normal (all_read (op_in true) xs)) (listed_back values) ∙ ap (such_that words_are_normal) are
+          ∙ passes words_are_normal ops (normal_from from count last read (omega (arith, some)));
       t = ops_on done items;
       gives = ap (λ r. change_of items (elim r as (λ _. EditCommand) [
             | Err origin ↦ change.NoOrigin origin

@@ -1,7 +1,9 @@
 -- Items put back as they were shown: a line with `exact` reads them, and what it doesn't say of a
 -- leaf that no tag spells comes from the page as it was first read.
-use Rattle.std.specs.Prelude.{◌≡◌, ◌<◌, ◌≤◌, ◌-◌, ℕ, zero, suc, Bool, true, false, not, ◌||◌, nat_lt, if◌then◌else◌, List, [], ◌∷◌, ◌++◌, length, map, slice_range, Option, Some, None, Ok}
+use Rattle.std.specs.Prelude.{◌≡◌, ◌<◌, ◌≤◌, ◌-◌, ℕ, zero, suc, Bool, true, false, not, ◌||◌, nat_lt, if◌then◌else◌, List, [], ◌∷◌, ◌++◌, length, map, slice_range, codes, Option, Some, None, Ok}
 use Rattle.std.specs.List.{AllByRecursion}
+use Rattle.serde_json.specs.Data.{Data, no_members, object, put}
+use Rattle.ve_base.specs.Limits.{max_items}
 use Rattle.ve_kinds.specs.declared.kind.Kind.{Kind}
 use Rattle.ve_kinds.specs.declared.kind.Kind.TheVariants.{Root, InternalList, InternalItem}
 use Rattle.ve_kinds.specs.Table.{is_element, kind_same}
@@ -10,14 +12,13 @@ use Rattle.model_items.specs.declared.plain_item.PlainItem.{PlainItem}
 use Rattle.model_items.specs.declared.plain_item.PlainItem.TheVariants.{Char, Opening, Closing}
 use Rattle.model_change.specs.Transaction.{Transaction, edited}
 use Rattle.model_world.specs.declared.edit_command.OpWords.{OpWords}
-use Rattle.model_world.specs.declared.edit_command.OpWords.TheVariants.{Retain, Remove}
 use Rattle.model_world.specs.declared.edit_command.EditCommand.TheVariants.{Apply}
 use Rattle.model_world.specs.Attributes.{are_allowed}
 use Rattle.model_world.specs.Completed.{completed, read_for}
 use Rattle.model_world.specs.Edits.{change_of}
 use Rattle.model_world.specs.ItemWords.{all_items_in, may_close, may_come, may_open}
-use Rattle.model_world.specs.Operations.{words_are_normal}
-use Rattle.model_world.specs.Shown.{items_shown}
+use Rattle.model_world.specs.Operations.{ops_in}
+use Rattle.model_world.specs.Shown.{items_shown, json_list, json_number}
 use Rattle.model_world_law.specs.ShownLaws.{AreAttrs, AreMarks, IsText, IsWhite, plain_head}
 
 -- a kind that a line can write
@@ -62,23 +63,30 @@ abbrev pub HasFirst : (opened : List PlainItem) → PlainItem → Type 0
 HasFirst opened (Opening kind head marks pre (Some origin) generated) = IsFirst opened kind head origin
 HasFirst opened _ = Unit {0}
 
--- the list but for a range is retained, and the range is removed, where these items are inserted
-abbrev pub retained : ℕ → List OpWords
-retained zero = []
-retained (suc n) = Retain (suc n) ∷ []
+-- ---- the change
 
-abbrev pub put_back : List PlainItem → (from to : ℕ) → (read : List PlainItem) → List OpWords
-put_back items from to read = retained from ++ (Remove (to - from) read ∷ retained (length items - to))
+-- `{"retain":n}`, unless it is nothing
+abbrev pub retained_shown : ℕ → List Data
+retained_shown zero = []
+retained_shown (suc n) = object (put (codes "retain") (json_number (suc n)) no_members) ∷ []
 
--- So a range that is removed and inserted again as it is shown leaves the list as it is.
+-- Operations of a line that removes a range and inserts what a reply shows of it.
+abbrev pub put_back_shown : List PlainItem → (from to : ℕ) → Data
+put_back_shown items from to =
+    let range = items_shown (slice_range items from to) in
+    let replaced = object (put (codes "remove") (json_number (to - from)) (put (codes "insert") range no_members)) in
+    json_list (retained_shown from ++ (replaced ∷ retained_shown (length items - to)))
+
+-- A line with `exact` reads them, and the change leaves the list as it is.
 pub record IsPutBack (opened items : List PlainItem) (from to : ℕ) : Type 0 where
-  pub read : List PlainItem
-  pub reads : all_items_in true (items_shown (slice_range items from to)) ≡ Some read
-  pub normal : words_are_normal (put_back items from to read) ≡ true
+  pub ops : List OpWords
+  pub reads : ops_in true (put_back_shown items from to) ≡ Some ops
   pub t : Transaction
-  pub gives : change_of items (completed opened (Apply (put_back items from to read))) ≡ Ok t
+  pub gives : change_of items (completed opened (Apply ops)) ≡ Ok t
   pub list : edited t items ≡ items
 
+-- So it is of every range that is not empty, has no bracket of the internal list, and has the page's
+-- openings for its origins.
 abbrev pub PutBackStays : Type 0
-PutBackStays = (opened items : List PlainItem) (from to : ℕ) → from < to → to ≤ length items → AllByRecursion CanPutBack (slice_range items from to) →
-    AllByRecursion (HasFirst opened) (slice_range items from to) → IsPutBack opened items from to
+PutBackStays = (opened items : List PlainItem) (from to : ℕ) → length items ≤ max_items → from < to → to ≤ length items →
+    AllByRecursion CanPutBack (slice_range items from to) → AllByRecursion (HasFirst opened) (slice_range items from to) → IsPutBack opened items from to
