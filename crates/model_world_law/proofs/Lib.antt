@@ -1,6 +1,7 @@
 pub mod BuilderLemmas
 pub mod NameLemmas
 pub mod MadeLemmas
+pub mod CompletedLemmas
 pub mod ChangeLemmas
 pub mod CauseLemmas
 pub mod ReadLemmas

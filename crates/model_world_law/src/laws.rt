@@ -1,5 +1,5 @@
 // The laws of worlds, each on a function that does nothing.
-ghost use Rattle.model_world_law.specs.Fit.{LinesAreWritten, ChangesFit, ChangesStand, MovesFit, MovesStand, PagesAreSound, PagesStand};
+ghost use Rattle.model_world_law.specs.Fit.{LinesAreWritten, CompletedFit, ChangesFit, ChangesStand, MovesFit, MovesStand, PagesAreSound, PagesStand};
 ghost use Rattle.model_world_law.specs.Causes.{StoreFullIsFull, MovesFillStore};
 ghost use Rattle.model_world_law.specs.Standing.{FragmentsOver, FragmentsWithin, PagesWithin};
 ghost use Rattle.model_world_law.specs.Written.{ReferencesAreWritten};
@@ -12,12 +12,14 @@ ghost use Rattle.model_world_law.specs.Reached.{EveryItemStands, EveryWorldIsRea
 use model_edit_law::fragment_stays_lawful;
 
 /// A line that is read asks for operations in normal form, and for no opening with two attributes
-/// of one name. It asks for characters and elements alone, with at most 64 marks. A sound list is
-/// lawful and has names apart. On one, every change that was read gives a reduced transaction that
-/// puts in names apart. So do rows, columns and moved list items. Every page that opens is a sound
-/// list.
+/// of one name. It asks for characters and elements alone, with at most 64 marks, and for leaves
+/// that no tag spells, each by its origin. Completed from the page, all that it asks for may stand.
+/// A sound list is lawful and has names apart. On one, every well-written change gives a reduced
+/// transaction that puts in names apart. So do rows, columns and moved list items. Every page that
+/// opens is a sound list.
 pub fn layers_fit()
     ensures lines { LinesAreWritten }
+    ensures completed { CompletedFit }
     ensures changes { ChangesFit }
     ensures moves { MovesFit }
     ensures pages { PagesAreSound }

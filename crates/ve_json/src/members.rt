@@ -89,7 +89,7 @@ pub fn number_or_none(
     field: Field,
 ) -> Result<Option<usize>, BadMember>
     ensures { Gives result (
-        optional_member field None commands.some_number_in (members_view members.now.entries)) }
+        optional_member field None values.some_number_in (members_view members.now.entries)) }
 {
     match of_field(members, field) {
         None => Ok(None),
