@@ -19,7 +19,7 @@ pub struct Provenance {
 
 /// An origin: a number.
 fn origin_in(json: &Value) -> Option<Option<u32>>
-    ensures { result ≡ words.origin_in (view json.now) }
+    ensures { result ≡ values.some_number_in (view json.now) }
 {
     match json.as_u64() {
         Some(n) if n < 4_294_967_296 => Some(Some(n as u32)),
@@ -30,7 +30,7 @@ fn origin_in(json: &Value) -> Option<Option<u32>>
 /// The origin; none where it is absent.
 fn origin_among(members: &Map<String, Value>) -> Option<Option<u32>>
     ensures { result
-        ≡ values.member_or (codes "origin") None words.origin_in (
+        ≡ values.member_or (codes "origin") None values.some_number_in (
         members_view members.now.entries) }
 {
     match member(members, "origin") {
