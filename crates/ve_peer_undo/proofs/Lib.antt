@@ -4,3 +4,7 @@ mod RevokeExamples
 mod CountingLemmas
 mod AlikeLemmas
 mod EffectLemmas
+mod CountedLemmas
+mod PositionLemmas
+mod TakenOutLemmas
+mod PassedLemmas

@@ -6,3 +6,5 @@ pub mod Refusal
 pub mod Laws
 pub mod Counting
 pub mod Alike
+pub mod Counted
+pub mod Walked

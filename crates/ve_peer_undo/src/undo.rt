@@ -16,7 +16,7 @@ use ve_tx::{Entry, Parcel, TxList};
 
 /// The parcel that takes another back just after it: the inverses of its transactions, the last one
 /// first.
-fn inverse_of(alloc: Global, parcel: &Parcel) -> Result<Parcel, Memory>
+pub(crate) fn inverse_of(alloc: Global, parcel: &Parcel) -> Result<Parcel, Memory>
     requires { ParcelCites parcel.now }
     ensures back { IfOk result (λ back.
         parcel_by_value back ≡ reversal_of (parcel_by_value parcel.now)) }
@@ -41,7 +41,7 @@ fn inverse_of(alloc: Global, parcel: &Parcel) -> Result<Parcel, Memory>
 }
 
 /// A parcel joined over later ones, which are moved along and never written out.
-fn over_later(alloc: Global, later: &[Parcel], back: &Parcel) -> Result<Parcel, RevokeFault>
+pub(crate) fn over_later(alloc: Global, later: &[Parcel], back: &Parcel) -> Result<Parcel, RevokeFault>
     requires run { RunFromOneLength (parcels_by_value later.now) (parcel_by_value back.now) }
     requires cites { ParcelCites back.now }
     ensures joined { IfOk result (λ made.
