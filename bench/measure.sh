@@ -1,4 +1,4 @@
-# Shared by bench/people and bench/lookups: a measuring program in Rattle. Its files stand under bench/measure/ and end in .txt, since
+# Shared by bench/people, bench/lookups and bench/spelling: a measuring program in Rattle. Its files stand under bench/measure/ and end in .txt, since
 # the gate takes each .rt and .antt file for one of a crate. It is proved and built outside the repository, against its crates.
 # Whoever reads this file has set top, the folder of the repository, and work, a folder of its own.
 # shellcheck shell=sh disable=SC2154
