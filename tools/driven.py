@@ -1,4 +1,4 @@
-"""Shared by tools/check-memory and bench/: the program, driven through two pipes, some lines at a time, or run on a whole script."""
+"""Shared by tools/check-memory and bench/cells: a program that is driven through two pipes, some lines at a time."""
 from __future__ import annotations
 
 import fcntl
@@ -6,12 +6,8 @@ import json
 import os
 import resource
 import subprocess
-import tempfile
 import time
-from pathlib import Path
-from typing import Any, Callable, Iterable, NamedTuple, Sequence
-
-TOP = Path(__file__).resolve().parents[1]
+from typing import Any, Sequence
 
 SET_PIPE_SIZE = 1031  # Linux's F_SETPIPE_SZ, which Python 3.9 doesn't name
 PIPE = 1 << 20  # as many bytes as a pipe may hold, so that a long reply is written without a wait
@@ -24,13 +20,6 @@ class Ended(Exception):
     def __init__(self, status: int) -> None:
         super().__init__(f"the program ended with status {status}")
         self.status = status
-
-
-def program() -> str:
-    """Returns the program of the sources as they are: bin/vemodel finds or builds it, and is itself a script."""
-    subprocess.run([TOP / "bin/vemodel", "run"], stdin=subprocess.DEVNULL, check=True)
-    told = ["sh", "-c", 'top=$0; . "$top/tools/sources.sh"; taken program', str(TOP)]
-    return subprocess.run(told, stdout=subprocess.PIPE, text=True, check=True).stdout.strip()
 
 
 def line(do: str, **members: Any) -> bytes:
@@ -86,40 +75,3 @@ class Run:
         status = self._process.wait()
         self._process.stdout.close()
         return status
-
-
-class Ran(NamedTuple):
-    """What a whole script took: seconds of the processor, the greatest memory in MiB and the exit status; and how many replies came, of
-    how many bytes together, and how the last one begins."""
-
-    seconds: float
-    memory: int
-    status: int
-    replies: int
-    size: int
-    last: str
-
-
-def ran(command: Sequence[str], script: Callable[[], Iterable[bytes]]) -> Ran:
-    """Runs a program on a script from a file, into a file.
-
-    Another process makes and writes the script: the memory of who starts a program counts as the program's, too, so it is to be little.
-    """
-    with tempfile.TemporaryFile() as lines, tempfile.TemporaryFile() as replies:
-        writer = os.fork()
-        if writer == 0:
-            lines.writelines(script())
-            lines.flush()
-            os._exit(0)
-        if os.waitpid(writer, 0)[1] != 0:
-            raise ChildProcessError("the script can't be written")
-        lines.seek(0)
-        process = subprocess.Popen(command, stdin=lines, stdout=replies, stderr=subprocess.DEVNULL)
-        _, status, used = os.wait4(process.pid, 0)
-        process.returncode = os.waitstatus_to_exitcode(status)
-        count, last = 0, b""
-        replies.seek(0)
-        for reply in replies:
-            count, last = count + 1, reply[:24]
-        seconds, memory = used.ru_utime + used.ru_stime, used.ru_maxrss // 1024
-        return Ran(seconds, memory, process.returncode, count, replies.tell(), last.decode(errors="replace").strip())
