@@ -1,22 +1,28 @@
 """Tests of the client against the program and the C library, with the replies of docs/FORMAT.md and of the scripts in examples/."""
+import asyncio
+import gc
 import json
 import os
 import pickle
+import signal
 import stat
 import tempfile
 import threading
 import unittest
+from contextlib import contextmanager
 from pathlib import Path
 from unittest import mock
 
 from vemodel import (
     Ack,
+    AsyncProgram,
     Cell,
     Changes,
     Core,
     Ended,
     Foreign,
     Grid,
+    Interrupted,
     Library,
     Node,
     Patch,
@@ -25,10 +31,13 @@ from vemodel import (
     Refused,
     Selection,
     Served,
+    TimedOut,
     library,
 )
 from vemodel.program import find
 
+#: A page that takes tens of milliseconds.
+LONG = f"<p>{'x' * 3_000_000}</p>"
 EXAMPLES = Path(__file__).resolve().parents[3] / "examples"
 
 
@@ -206,24 +215,24 @@ class Commands(unittest.TestCase):
     def test_close_twice(self):
         self.core.close()
         self.core.close()
-        with self.assertRaises(ValueError):
+        with self.assertRaises(Ended) as caught:
             self.core.html()
+        self.assertEqual(caught.exception.status, 0)
 
+    def test_lines_ahead(self):
+        """More than the pipes hold, on either side."""
+        page = f"<p>{'x' * 100_000}</p>"
+        lines = [json.dumps({"do": "open", "page": page}), '{"do":"html"}', "{"] * 10
+        self.assertEqual(self.core.lines(lines), ["ok 100004", f'ok "{page}"', "no bad_json"] * 10)
+        self.assertEqual(self.core.lines([]), [])
+        with self.assertRaises(ValueError):
+            self.core.lines(['{"do":"undo"}', "\n"])
 
-@unittest.skipUnless(library.find(), "there is no library")
-class CommandsOverTheLibrary(Commands):
-    def begin(self):
-        return Core(library=library.find())
-
-    def test_it_is_the_library_that_is_found(self):
-        with mock.patch.dict(os.environ):
-            os.environ.pop("VEMODEL", None)
-            with Core() as core:
-                self.assertIsInstance(core._world, Library)
-        with mock.patch.dict(os.environ, {"VEMODEL": str(find())}), Core() as core:
-            self.assertIsInstance(core._world, Program)
-        with self.assertRaises(TypeError):
-            Core(find(), library=library.find())
+    def test_members_that_the_table_has_and_format_adds(self):
+        """A member of which an older core knows nothing isn't in its way."""
+        self.core.open("<p>ab</p>")
+        self.assertEqual(self.core.apply([{"retain": 6}], exact=True), 6)
+        self.assertEqual(self.refused(self.core.revoke, 0, live=True).words, ("bad_entry",))
 
     def test_threads(self):
         """A core in each of four threads, and then one in all."""
@@ -250,6 +259,100 @@ class CommandsOverTheLibrary(Commands):
                 it.join()
         self.assertEqual((wrong, self.core.html()), ([], f"<p>{'x' * 800}</p>"))
 
+    def interrupt(self, milliseconds, handler):
+        """Has a signal's handler run after so long."""
+        before = signal.signal(signal.SIGALRM, handler)
+        self.addCleanup(signal.signal, signal.SIGALRM, before)
+        signal.setitimer(signal.ITIMER_REAL, milliseconds / 1000)
+
+    def is_over(self, core):
+        with self.assertRaises(Interrupted) as caught:
+            core.text(1, "Z")
+        self.assertIsNone(caught.exception.status)
+        self.assertEqual(str(pickle.loads(pickle.dumps(caught.exception))), str(caught.exception))
+        core.close()
+        with self.assertRaises(Interrupted):
+            core.html()
+
+    def test_a_call_that_is_interrupted(self):
+        """Wherever it is, later lines have their own replies, or none."""
+
+        def raises(*_):
+            raise KeyboardInterrupt
+
+        over = 0
+        for milliseconds in range(2, 60, 4):
+            core = self.begin()
+            with self.assertRaises(KeyboardInterrupt):
+                self.interrupt(milliseconds, raises)
+                while True:
+                    core.open(LONG)
+            try:
+                self.assertEqual(core.line("{"), "no bad_json")  # it came before the line was sent, or after its reply
+                core.close()
+            except Interrupted:
+                self.is_over(core)
+                over += 1
+        self.assertGreater(over, 0)
+
+    def test_a_call_that_takes_too_long(self):
+        with self.assertRaises(TimedOut) as caught:
+            self.core.open(LONG, timeout=0.001)
+        self.assertIsInstance(caught.exception, TimeoutError)
+        self.is_over(self.core)
+
+    def test_a_time_for_all_calls(self):
+        self.core.timeout = 60
+        self.assertEqual(self.core.open(LONG), len(LONG) - 3)
+        self.core.timeout = 0.001
+        self.assertEqual(self.core.html(timeout=60), LONG)
+        with self.assertRaises(TimedOut):
+            self.core.open(LONG)
+
+    def test_a_call_from_within_a_call(self):
+        said = []
+
+        def asks(*_):
+            try:
+                said.append(self.core.html())
+            except RuntimeError as error:
+                said.append(error)
+
+        self.core.open(LONG)
+        self.interrupt(3, asks)
+        while not said:
+            self.assertEqual(self.core.open(LONG), len(LONG) - 3)
+        self.assertIn(type(said[0]), (RuntimeError, str))  # a text, where it came between two calls
+        self.assertEqual(self.core.html(), LONG)
+
+    def test_a_fork(self):
+        self.core.open("<p>ab</p>")
+        child = os.fork()
+        if child == 0:
+            try:
+                self.core.html()
+            except RuntimeError:
+                os._exit(0)
+            os._exit(1)
+        self.assertEqual(os.waitpid(child, 0)[1], 0)
+        self.assertEqual(self.core.html(), "<p>ab</p>")
+
+
+@unittest.skipUnless(library.find(), "there is no library")
+class CommandsOverTheLibrary(Commands):
+    def begin(self):
+        return Core(library=library.find())
+
+    def test_it_is_the_library_that_is_found(self):
+        with mock.patch.dict(os.environ):
+            os.environ.pop("VEMODEL", None)
+            with Core() as core:
+                self.assertIsInstance(core._world, Library)
+        with mock.patch.dict(os.environ, {"VEMODEL": str(find())}), Core() as core:
+            self.assertIsInstance(core._world, Program)
+        with self.assertRaises(TypeError):
+            Core(find(), library=library.find())
+
     def test_a_world_that_is_not_closed(self):
         core = self.begin()
         core.open("<p>ab</p>")
@@ -258,15 +361,21 @@ class CommandsOverTheLibrary(Commands):
         self.assertFalse(handle.is_open)
 
 
+@contextmanager
+def program_of(commands):
+    """Gives the path of a program that runs these shell commands."""
+    with tempfile.TemporaryDirectory() as folder:
+        path = Path(folder, "program")
+        path.write_text(f"#!/bin/sh\n{commands}\n")
+        path.chmod(path.stat().st_mode | stat.S_IXUSR)
+        yield path
+
+
 class Ends(unittest.TestCase):
     def ended(self, commands):
         """Returns the error of a line that is sent to a program which runs these shell commands."""
-        with tempfile.TemporaryDirectory() as folder:
-            path = Path(folder, "program")
-            path.write_text(f"#!/bin/sh\n{commands}\n")
-            path.chmod(path.stat().st_mode | stat.S_IXUSR)
-            with Core(path) as core, self.assertRaises(Ended) as caught:
-                core.html()
+        with program_of(commands) as path, Core(path) as core, self.assertRaises(Ended) as caught:
+            core.html()
         return caught.exception
 
     def test_statuses_in_words(self):
@@ -278,6 +387,32 @@ class Ends(unittest.TestCase):
 
     def test_a_reply_that_breaks_off(self):
         self.assertEqual(self.ended("read -r line; printf 'ok 1'; exit 4").status, 4)
+
+    def test_a_program_that_is_dropped(self):
+        pids = []
+        for _ in range(5):
+            core = Core(find())
+            core.open("<p>ab</p>")
+            pids.append(core._world.process.pid)
+        del core
+        gc.collect()
+        for pid in pids:
+            with self.assertRaises(ProcessLookupError):
+                os.kill(pid, 0)
+
+    def test_a_program_that_is_slow(self):
+        """It is killed, also where it doesn't read."""
+        for line in ("read -r line; exec sleep 60", "exec sleep 60"):
+            with program_of(line) as path, Core(path, timeout=0.2) as core, self.assertRaises(TimedOut):
+                core.text(0, "x" * 1_000_000)
+
+    def test_memory_of_a_program(self):
+        program = Program(find(), memory=100_000_000)
+        line = json.dumps({"do": "open", "page": LONG, "sites": 8}).encode()
+        self.assertEqual(program.step(b"{"), b"no bad_json")
+        with self.assertRaises(Ended) as caught:
+            program.step(line)
+        self.assertEqual((caught.exception.status, program.close()), (6, 6))
 
     def test_status_of_a_program_that_is_closed(self):
         program = Program()
@@ -298,6 +433,52 @@ class Ends(unittest.TestCase):
         with mock.patch.dict(os.environ):
             os.environ.pop("VEMODEL", None)
             self.assertEqual(find(), EXAMPLES.parent / "bin" / "vemodel")
+
+
+class Asynchronous(unittest.IsolatedAsyncioTestCase):
+    async def asyncSetUp(self):
+        self.program = await AsyncProgram.start(find())
+        self.addAsyncCleanup(self.program.close)
+
+    async def test_every_raw_line_of_the_examples(self):
+        for name, lines in scripts():
+            program = await AsyncProgram.start()
+            self.assertEqual(await program.run([line for line, _ in lines]), [reply for _, reply in lines], name)
+            self.assertEqual(program.room, (64 << 20) - sum(len(line.encode()) + 1 for line, _ in lines))
+            await program.close()
+
+    async def test_two_tasks(self):
+        await self.program.run(['{"do":"open","page":"<p></p>"}'])
+        line = '{"do":"text","at":1,"text":"x"}'
+        runs = await asyncio.gather(*(self.program.run([line] * 50) for _ in range(4)))
+        self.assertEqual(sum(runs, []), [f"ok {k}" for k in range(5, 205)])
+
+    async def test_a_run_that_is_cancelled_or_late(self):
+        line = json.dumps({"do": "open", "page": LONG})
+        late = await AsyncProgram.start(find())
+        with self.assertRaises(TimedOut):
+            await late.run([line], timeout=0.001)
+        run = asyncio.ensure_future(self.program.run([line]))
+        await asyncio.sleep(0.005)
+        run.cancel()
+        with self.assertRaises(asyncio.CancelledError):
+            await run
+        for program in (late, self.program):
+            with self.assertRaises(Interrupted):
+                await program.run(["{"])
+            self.assertEqual(await program.close(), -9)
+
+    async def test_the_end(self):
+        with program_of("read -r line; echo ok 1; exit 6") as path:
+            program = await AsyncProgram.start(path)
+            with self.assertRaises(Ended) as caught:
+                await program.run(["{", "{"])
+            self.assertEqual(caught.exception.status, 6)
+        with self.assertRaises(ValueError):
+            await self.program.run(["\n"])
+        await self.program.close()
+        with self.assertRaises(Ended):
+            await self.program.run(["{"])
 
 
 if __name__ == "__main__":
