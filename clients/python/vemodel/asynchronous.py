@@ -61,13 +61,14 @@ class AsyncProgram:
 
     async def close(self) -> int:
         """Ends the program, which has nothing to lose, and returns its status. Closing it again does nothing."""
-        self._give_up(self._failure or Ended(0))
+        self._give_up(Ended(0))
         return await self._process.wait()
 
     def _give_up(self, failure: Ended) -> None:
-        self._failure = failure
-        if self._process.returncode is None:
+        # asyncio loses the status of a process that is killed twice.
+        if self._failure is None and self._process.returncode is None:
             self._process.kill()
+        self._failure = self._failure or failure
         if not self._lines.is_closing():
             self._lines.transport.abort()  # with what isn't written yet
 
