@@ -275,25 +275,24 @@ class Commands(unittest.TestCase):
             core.html()
 
     def test_a_call_that_is_interrupted(self):
-        """Wherever it is, later lines have their own replies, or none."""
+        """Wherever that is, later lines have their own replies, or none."""
 
         def raises(*_):
             raise KeyboardInterrupt
 
-        over = 0
-        for milliseconds in range(2, 60, 4):
+        line = json.dumps({"do": "open", "page": LONG})
+        for milliseconds in range(5, 500, 5):
             core = self.begin()
             with self.assertRaises(KeyboardInterrupt):
                 self.interrupt(milliseconds, raises)
                 while True:
-                    core.open(LONG)
+                    core.line(line)
             try:
-                self.assertEqual(core.line("{"), "no bad_json")  # it came before the line was sent, or after its reply
+                self.assertEqual(core.line("{"), "no bad_json")  # it came between two calls
                 core.close()
             except Interrupted:
-                self.is_over(core)
-                over += 1
-        self.assertGreater(over, 0)
+                return self.is_over(core)
+        self.fail("it never came within a call")
 
     def test_a_call_that_takes_too_long(self):
         with self.assertRaises(TimedOut) as caught:
