@@ -46,8 +46,8 @@ async function checkLink() {
 }
 
 async function draw() {
-  const { script } = picks.find((it) => it.name === "Marks");
+  const { script } = picks.find((it) => it.name === "Paragraphs as a list");
   const window = await opened(`${ADDRESS}#${encodeURIComponent(script)}`);
-  await window.call("Emulation.setDeviceMetricsOverride", { width: 1000, height: 560, deviceScaleFactor: 1, mobile: false });
+  await window.call("Emulation.setDeviceMetricsOverride", { width: 1000, height: 430, deviceScaleFactor: 1, mobile: false });
   writeFileSync(new URL(picture, ADDRESS), await window.picture());
 }
