@@ -1,4 +1,4 @@
-"""Shared by tools/check-memory, tools/check-refusals and bench/cells: lines, and the Python client's program with times and memory."""
+"""Shared by tools/check-memory, tools/check-refusals and bench/: lines, and the Python client's program with times and memory."""
 from __future__ import annotations
 
 import fcntl
@@ -23,9 +23,11 @@ def line(do: str, **members: Any) -> bytes:
 
 
 class Run(Program):
-    """A program that is running."""
+    """A program that is running, by a command whose last words are the program and `run`. With `memory` it may take so many bytes of
+    addresses at most."""
 
-    def __init__(self, path: str, *, memory: int | None = None, under: Sequence[str] = ()) -> None:
+    def __init__(self, command: Sequence[str], memory: int | None = None) -> None:
+        *under, path, _ = command
         super().__init__(path, memory=memory, under=under)
         assert self.process.stdout
         fcntl.fcntl(self.process.stdout, SET_PIPE_SIZE, PIPE)
