@@ -6,7 +6,7 @@ import tempfile
 import unittest
 from contextlib import contextmanager
 from pathlib import Path
-from typing import Iterator
+from collections.abc import Iterator
 
 from vemodel import Core, library
 from vemodel.program import find

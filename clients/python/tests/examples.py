@@ -3,7 +3,8 @@ from __future__ import annotations
 
 import json
 from pathlib import Path
-from typing import Any, Iterator
+from collections.abc import Iterator
+from typing import Any
 
 from vemodel import Ack, Changes, Core, Foreign, Grid, Node, Refused, Selection, Served
 

@@ -6,7 +6,7 @@ import os
 import pickle
 import signal
 import threading
-from typing import Callable
+from collections.abc import Callable
 
 from vemodel import Core, Interrupted, TimedOut
 

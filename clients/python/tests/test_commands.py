@@ -2,7 +2,8 @@
 from __future__ import annotations
 
 import json
-from typing import Any, Callable
+from collections.abc import Callable
+from typing import Any
 
 from vemodel import Cell, Changes, Core, Ended, Foreign, Ack, Grid, Node, Patch, Reference, Refused, Selection, Served
 

@@ -3,7 +3,7 @@ from __future__ import annotations
 
 import asyncio
 from copy import copy
-from typing import Sequence
+from collections.abc import Sequence
 
 from .errors import Ended, Interrupted, TimedOut
 from .members import Seconds

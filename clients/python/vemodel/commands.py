@@ -5,7 +5,8 @@ Made by tools/commands of clients/commands.json: change that, and call `tools/co
 from __future__ import annotations
 
 from abc import ABC, abstractmethod
-from typing import Iterable, Literal, Sequence
+from collections.abc import Iterable, Sequence
+from typing import Literal
 
 from . import read
 from .members import Attributes, Direction, Members, Seconds, Step, Wrapper, given, pairs, wrapped

@@ -6,10 +6,11 @@ import os
 import subprocess
 import threading
 import weakref
-from functools import lru_cache
+from functools import cache
 from pathlib import Path
 from queue import Empty, SimpleQueue
-from typing import Any, Sequence
+from collections.abc import Sequence
+from typing import Any
 
 from .errors import Ended, TimedOut
 from .members import Seconds
@@ -29,7 +30,7 @@ class _Stepped(ctypes.Structure):
     _fields_ = [("status", ctypes.c_uint32), ("length", ctypes.c_size_t)]
 
 
-@lru_cache(maxsize=None)
+@cache
 def _loaded(path: str) -> Any:
     """Returns the functions of the library at a path. Raises OSError where it can't be loaded, or is another."""
     functions = ctypes.CDLL(path)
@@ -44,7 +45,7 @@ def _loaded(path: str) -> Any:
     return functions
 
 
-@lru_cache(maxsize=None)
+@cache
 def _of_repository() -> Path | None:
     """Returns what bin/libvemodel says of the repository in which this file lies."""
     teller = _HERE.parents[3] / "bin" / "libvemodel"

@@ -1,14 +1,15 @@
 """What methods take, and how it is spelled in a line."""
 from __future__ import annotations
 
-from typing import Any, Iterable, Literal, Mapping, Optional, Tuple, Union
+from collections.abc import Iterable, Mapping
+from typing import Any, Literal, Optional, Union
 
 #: A command's members; also a command of a batch, or an operation of `apply`, as docs/FORMAT.md spells it.
 Members = Mapping[str, Any]
 #: The attributes of a mark or of an element, in their order.
 Attributes = Mapping[str, str]
 #: What is wrapped round a range: a kind, or a kind and attributes.
-Wrapper = Union[str, Tuple[str, Attributes]]
+Wrapper = Union[str, tuple[str, Attributes]]
 #: Which way, and how far, the focus goes.
 Direction = Literal["back", "ahead"]
 Step = Literal["cluster", "word"]

@@ -9,7 +9,8 @@ import sys
 import time
 import weakref
 from pathlib import Path
-from typing import Sequence, Union
+from collections.abc import Sequence
+from typing import Union
 
 from .errors import Ended, TimedOut
 from .members import Seconds

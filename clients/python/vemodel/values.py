@@ -1,12 +1,12 @@
 """What replies give."""
 from __future__ import annotations
 
-from typing import Any, List, NamedTuple, Optional, Tuple
+from typing import Any, NamedTuple, Optional
 
 #: An item as `data` shows it, and as `apply` takes it: a text, `[text, marks]`, an opening or a closing.
 Item = Any
 #: A node of the tree: its kind, and then its children, where a number is a run of so many characters.
-Tree = List[Any]
+Tree = list[Any]
 
 
 class Node(NamedTuple):
@@ -52,7 +52,7 @@ class Grid(NamedTuple):
 
     rows: int
     columns: int
-    cells: List[Cell]
+    cells: list[Cell]
 
 
 class Patch(NamedTuple):
@@ -67,7 +67,7 @@ class Changes(NamedTuple):
     """What changed in a list: its length now, and patches, each over the list that those before it left."""
 
     length: int
-    patches: List[Patch]
+    patches: list[Patch]
 
 
 class Served(NamedTuple):
@@ -78,7 +78,7 @@ class Served(NamedTuple):
 
     accepted: int
     of: int
-    conflict: Optional[Tuple[Tuple[int, int], Tuple[int, int]]]
+    conflict: Optional[tuple[tuple[int, int], tuple[int, int]]]
 
 
 class Foreign(NamedTuple):

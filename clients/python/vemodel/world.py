@@ -5,7 +5,8 @@ import os
 import threading
 from abc import ABC, abstractmethod
 from copy import copy
-from typing import Callable, Sequence, TypeVar
+from collections.abc import Callable, Sequence
+from typing import TypeVar
 
 from .errors import Ended, Interrupted, TimedOut
 from .members import Seconds
