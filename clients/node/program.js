@@ -12,7 +12,8 @@ export class Program {
   /** Starts the program at a path. What it tells is said at Queue. */
   constructor(path, told) {
     this.#told = told;
-    this.#run = spawn(path, ["run"], { stdio: ["pipe", "pipe", "inherit"] });
+    // Detached, since a terminal's Ctrl-C is for whoever asks the program. It ends where its input does.
+    this.#run = spawn(path, ["run"], { stdio: ["pipe", "pipe", "inherit"], detached: true });
     this.#run.stdout.on("data", (bytes) => this.#read(bytes));
     this.#run.stdin.on("error", () => {}); // it ended, which "close" tells with its status
     this.#run.on("error", (error) => told.end(error)); // it can't be started

@@ -17,10 +17,10 @@ export interface Lines extends Commands, AsyncDisposable {
   line(line: string, options?: Options): Promise<string>;
   /** What the method gives that is called as `do` is. */
   ask(command: Command, options?: Options): Promise<unknown>;
-  /** Resolves with why no line is answered any more, once that is so. It never rejects. */
-  readonly ended: Promise<Ended>;
-  /** Ends the core behind the lines that were sent; gives its status. */
-  close(): Promise<Ended["status"]>;
+  /** Resolves with why no line is answered any more, once that is so: an Ended, or what kept it from starting. It never rejects. */
+  readonly ended: Promise<Error>;
+  /** Ends the core behind the lines that were sent. Gives its status; nothing where it couldn't be started. */
+  close(): Promise<Ended["status"] | undefined>;
 }
 
 /** Of a call. Where the signal is aborted after the line was sent, the call is rejected with its reason, and the core ends. */

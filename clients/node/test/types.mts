@@ -16,7 +16,8 @@ export async function typed(signal: AbortSignal): Promise<unknown[]> {
   // @ts-expect-error: a member is missing
   await core.text({ at: 0 });
   const other = new Core({ program: true });
-  const { status }: Ended = await other.ended;
+  const why = await other.ended;
+  const status: number | string | null = why instanceof Ended ? why.status : why.message;
   await other[Symbol.asyncDispose]();
   const reply: string = new World(await compile()).line("{");
   return [length, accepted, status, reply, Refused];

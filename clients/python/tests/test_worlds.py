@@ -46,6 +46,12 @@ class Ends(unittest.TestCase):
             with self.assertRaises(ProcessLookupError):
                 os.kill(pid, 0)
 
+    def test_the_interrupt_of_a_terminal(self) -> None:
+        """It goes to all processes of the terminal's session, which the program's isn't."""
+        program = Program(find())
+        self.addCleanup(program.close)
+        self.assertNotEqual(os.getsid(program.process.pid), os.getsid(0))
+
     def test_a_program_that_is_slow(self) -> None:
         """It is killed, also where it doesn't read."""
         for line in ("read -r line; exec sleep 60", "exec sleep 60"):

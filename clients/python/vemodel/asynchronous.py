@@ -29,8 +29,10 @@ class AsyncProgram:
         """Starts the program at `path`, or the one that `find` gives. With `memory` it may take so many bytes of addresses at most. Raises
         OSError where it can't be started."""
         pipe = asyncio.subprocess.PIPE
-        # The limit is of one reply, and the longest is a page, escaped.
-        process = await asyncio.create_subprocess_exec(path or find(), "run", stdin=pipe, stdout=pipe, limit=MOST_BYTES)
+        # The limit is of one reply, and the longest is a page, escaped. A session of its own is for the reason that Program has one.
+        process = await asyncio.create_subprocess_exec(
+            path or find(), "run", stdin=pipe, stdout=pipe, limit=MOST_BYTES, start_new_session=True
+        )
         if memory is not None:
             limit_memory(process.pid, memory)
         return cls(process)

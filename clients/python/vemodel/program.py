@@ -55,7 +55,8 @@ class Program(World):
         take so many bytes of addresses at most. Raises OSError where it can't be started."""
         super().__init__()
         command = [*under, os.fspath(path or find()), "run"]
-        self.process = subprocess.Popen(command, stdin=subprocess.PIPE, stdout=subprocess.PIPE, bufsize=0)
+        # In a session of its own: a terminal's Ctrl-C is for whoever asks the program, and doesn't end it between two calls.
+        self.process = subprocess.Popen(command, stdin=subprocess.PIPE, stdout=subprocess.PIPE, bufsize=0, start_new_session=True)
         self._finalize = weakref.finalize(self, _end, self.process, os.getpid())
         assert self.process.stdin and self.process.stdout
         self._lines, self._replies = self.process.stdin.fileno(), self.process.stdout.fileno()

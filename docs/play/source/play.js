@@ -1,5 +1,7 @@
 // A script is run from its first line whenever it changes, in a world of its own, so that what is shown is what its lines give.
-// World and Ended are the client's, which tools/play puts before this.
+// tools/play puts the client's files before this, in the place of the import.
+import { World } from "../../../clients/web/world.js";
+
 const PAUSE = 150; // milliseconds that must go by without a key before the script is run
 const SITES = 8;
 const find = (id) => document.getElementById(id);
@@ -8,7 +10,7 @@ const module = await compiled(find("module").textContent);
 
 async function compiled(text) {
   const packed = Uint8Array.from(atob(text), (sign) => sign.charCodeAt(0));
-  const unpacked = new Response(packed).body.pipeThrough(new DecompressionStream("gzip"));
+  const unpacked = new Response(packed).body.pipeThrough(new globalThis.DecompressionStream("gzip"));
   return WebAssembly.compile(await new Response(unpacked).arrayBuffer());
 }
 
