@@ -60,8 +60,7 @@ class Program(World):
         self._finalize = weakref.finalize(self, _end, self.process, os.getpid())
         assert self.process.stdin and self.process.stdout
         self._lines, self._replies = self.process.stdin.fileno(), self.process.stdout.fileno()
-        for pipe in (self._lines, self._replies):
-            os.set_blocking(pipe, False)
+        os.set_blocking(self._lines, False)
         if memory is not None:
             limit_memory(self.process.pid, memory)
 
@@ -70,7 +69,7 @@ class Program(World):
         return self._in_turn(lambda: self._replies_to(lines, timeout))
 
     def _exchange(self, lines: Sequence[bytes], timeout: Seconds) -> list[bytes]:
-        return self._replies_to(b"".join(line + b"\n" for line in lines), timeout).split(b"\n")[:-1]
+        return self._replies_to(b"\n".join([*lines, b""]), timeout).split(b"\n")[:-1]
 
     def _replies_to(self, lines: bytes, timeout: Seconds) -> bytes:
         """Writes lines while it reads their replies, since either pipe may fill."""
@@ -78,11 +77,11 @@ class Program(World):
         rest = self._written(memoryview(lines))
         missing, pieces = lines.count(b"\n"), list[bytes]()
         while missing > 0:
-            self._wait(bool(rest), end)
+            # Reading waits by itself, where it may wait as long as it likes and nothing is to be written meanwhile.
+            if (not rest and end == math.inf) or self._is_readable(bool(rest), end):
+                pieces.append(self._read())
+                missing -= pieces[-1].count(b"\n")
             rest = self._written(rest)
-            piece = self._read()
-            missing -= piece.count(b"\n")
-            pieces.append(piece)
         return b"".join(pieces)
 
     def _written(self, rest: memoryview) -> memoryview:
@@ -95,24 +94,22 @@ class Program(World):
             return rest[:0]
 
     def _read(self) -> bytes:
-        """Returns what there is of replies now."""
-        try:
-            piece = os.read(self._replies, PIECE)
-        except BlockingIOError:
-            return b""
+        """Waits until there is something of replies, and returns it."""
+        piece = os.read(self._replies, PIECE)
         if not piece:
             raise Ended(self.process.wait())
         return piece
 
-    def _wait(self, is_writing: bool, end: float) -> None:
-        """Waits until there is something to read, or room for what is to be written."""
+    def _is_readable(self, is_writing: bool, end: float) -> bool:
+        """Waits until there is something to read, or room for what is to be written, and returns whether it is the first."""
         poll = select.poll()
         poll.register(self._replies, select.POLLIN)
         if is_writing:
             poll.register(self._lines, select.POLLOUT)
-        left = end - time.monotonic()
-        if left <= 0 or not poll.poll(None if left == math.inf else left * 1000):
+        ready = dict(poll.poll(None if end == math.inf else max(end - time.monotonic(), 0) * 1000))
+        if not ready:
             raise TimedOut
+        return self._replies in ready
 
     def _stop(self) -> None:
         self._finalize()

@@ -33,7 +33,7 @@ class World(ABC):
     def steps(self, lines: Sequence[bytes], timeout: Seconds = None) -> list[bytes]:
         """Returns the replies to lines, which are all sent before the first reply is looked at. They may take so many seconds from the
         call's turn on. Raises ValueError where a line holds a newline, Ended, and TimedOut."""
-        if any(b"\n" in line for line in lines):
+        if b"\n" in b"".join(lines):
             raise ValueError("a line holds no newline: in JSON it is written \\n")
         return self._in_turn(lambda: self._exchange(lines, timeout))
 
