@@ -1,18 +1,20 @@
 // A client of vemodel for Node: the core runs in this process, as a module, or as a program of its own. Lines may be sent ahead; each gets
 // a promise, and they are answered in their order. The types, and what each method does, are in index.d.ts.
 import { existsSync } from "node:fs";
-import { fileURLToPath, pathToFileURL } from "node:url";
+import { fileURLToPath } from "node:url";
 import { Queue } from "../web/queue.js";
 import { Runner } from "../web/runner.js";
+import { PACKED, compile } from "./module.js";
 import { Program } from "./program.js";
 
 export { Ended, Refused } from "../web/errors.js";
-export { World, compile } from "../web/world.js";
+export { World } from "../web/world.js";
+export { compile } from "./module.js";
 
 export class Core extends Queue {
   constructor(options = {}) {
     const { program, module } = chosen(typeof options === "string" ? { program: options } : options);
-    super((told) => (program ? new Program(program, told) : new Runner(module, told)));
+    super((told) => (program ? new Program(program, told) : new Runner(compile(module), told)));
   }
 
   static async start(options) {
@@ -26,16 +28,11 @@ export class Core extends Queue {
 function chosen({ program, module }) {
   if (program && module) throw new TypeError("a core is over a program or over a module");
   if (program) return { program: program === true ? ownProgram() : program };
-  if (module) return { module: typeof module === "string" ? asURL(module) : module };
+  if (module) return { module };
   const { VEMODEL, VEMODEL_MODULE } = process.env;
   if (VEMODEL) return { program: VEMODEL };
-  if (VEMODEL_MODULE) return { module: pathToFileURL(VEMODEL_MODULE) };
-  const packed = new URL("../web/vemodel.wasm", import.meta.url);
-  return existsSync(packed) ? { module: packed } : { program: ownProgram() };
-}
-
-function asURL(module) {
-  return URL.canParse(module) ? new URL(module) : pathToFileURL(module);
+  if (VEMODEL_MODULE) return { module: VEMODEL_MODULE };
+  return existsSync(PACKED) ? { module: PACKED } : { program: ownProgram() };
 }
 
 // The package's program for this machine, or bin/vemodel of the repository.

@@ -7,10 +7,10 @@ export class Runner {
   #world;
   #early = []; // what is to be done once the world is there
 
-  /** Compiles the module, or takes it. What it tells is said at Queue. */
+  /** Compiles a module's source, which may be promised. What it tells is said at Queue. */
   constructor(module, told) {
     this.#told = told;
-    compile(module).then((compiled) => this.#begin(compiled)).catch((error) => this.#end(error));
+    Promise.resolve(module).then(compile).then((compiled) => this.#begin(compiled)).catch((error) => this.#end(error));
   }
 
   send(line) {

@@ -16,10 +16,6 @@ const encoder = new TextEncoder(), decoder = new TextDecoder("utf-8", { ignoreBO
 export async function compile(source = new URL("vemodel.wasm", import.meta.url)) {
   if (source instanceof WebAssembly.Module) return source;
   if (ArrayBuffer.isView(source) || source instanceof ArrayBuffer) return WebAssembly.compile(source);
-  if (String(source).startsWith("file:") && globalThis.process?.versions?.node) {
-    const { readFile } = await import("node:fs/promises");
-    return WebAssembly.compile(await readFile(new URL(source)));
-  }
   const response = await fetch(source);
   if (!response.ok) throw new Error(`${source} is answered ${response.status}: give the module's address`);
   const isNamed = response.headers.get("content-type")?.startsWith("application/wasm"); // else it can't be compiled while it comes
