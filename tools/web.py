@@ -26,6 +26,8 @@ from typing import Iterable, Iterator
 
 TRIPLE = "wasm64-unknown-unknown"
 LAYOUT = "e-m:e-p:64:64-p10:8:8-p20:8:8-i64:64-i128:128-n32:64-S128-ni:1:10:20"
+# The words by which clang writes a module as text, as it is.
+AS_TEXT = ("-S", "-emit-llvm", "-x", "ir", "-Xclang", "-disable-llvm-passes")
 CPU = re.compile(r'"target-cpu"="[^"]*"')
 CPU_HERE = '"no-builtin-bcmp" "no-builtin-memcmp" "no-builtin-strlen" "target-cpu"="lime1"'
 
