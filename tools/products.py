@@ -16,6 +16,8 @@ import web
 TOP = Path(__file__).resolve().parents[1]
 # What the C library and the module show. All else in them is their own.
 EXPORTS = ("vemodel_open", "vemodel_step", "vemodel_reply", "vemodel_close")
+# The name by which programs find the library. Its number goes up where a function or the handle changes.
+SONAME = "libvemodel.so.0"
 X86_64, AARCH64 = "x86_64-unknown-linux-gnu", "aarch64-unknown-linux-gnu"
 # Where Debian's packages libc6-dev-arm64-cross and libgcc-12-dev-arm64-cross put what a program for aarch64 is linked with.
 ARM_LIBC, ARM_COMPILER = Path("/usr/aarch64-linux-gnu/lib"), Path("/usr/lib/gcc-cross/aarch64-linux-gnu/12")
@@ -92,10 +94,10 @@ class Program(Product):
 
 
 class Library(Product):
-    word, crate, proved, made = "library", "vemodel_c", "libvemodel_c.a", ("libvemodel_c.a", "libvemodel.so")
+    word, crate, proved, made = "library", "vemodel_c", "libvemodel_c.a", ("libvemodel_c.a", SONAME)
 
     def finish(self, call: Call) -> None:
-        link_shared(self, call, "elf_x86_64", self.at("libvemodel.so"), f"{self.kit}/c/liblibc_c.a", f"{self.kit}/toolchain/lib/libc.so.6")
+        link_shared(self, call, "elf_x86_64", self.at(SONAME), f"{self.kit}/c/liblibc_c.a", f"{self.kit}/toolchain/lib/libc.so.6")
 
 
 def link_shared(product: Product, call: Call, emulation: str, to: str, *below: str) -> None:
@@ -106,7 +108,7 @@ def link_shared(product: Product, call: Call, emulation: str, to: str, *below: s
     """
     script = Path(f"{to}.exports")
     script.write_text(f"{{ global: {' '.join(f'{it};' for it in EXPORTS)} local: *; }};\n")
-    words = ["-m", emulation, "-shared", "-soname", "libvemodel.so", "-o", to, "--version-script", str(script), "--no-undefined"]
+    words = ["-m", emulation, "-shared", "-soname", SONAME, "-o", to, "--version-script", str(script), "--no-undefined"]
     words += ["--gc-sections", "-z", "relro", "-z", "now", "-z", "noexecstack", "--fatal-warnings", "--threads=1"]
     run(call, product.tool("ld.lld"), *words, "--whole-archive", product.at(product.proved), "--no-whole-archive", *below)
 
@@ -147,7 +149,10 @@ class ArmLibrary(Arm):
     word, crate, proved, made = "library-aarch64", "vemodel_c", "libvemodel_c.a", ("libvemodel-aarch64.so",)
 
     def finish(self, call: Call) -> None:
-        link_shared(self, call, "aarch64linux", self.at(self.made[0]), self.calls_of_c(call), f"{self.toolchain()}/lib/libc.so.6")
+        below = Path(self.toolchain(), "lib")
+        # (clang may call its library for counts that threads share)
+        words = [self.calls_of_c(call), str(below / "libgcc.a"), str(below / "libc.so.6")]
+        link_shared(self, call, "aarch64linux", self.at(self.made[0]), *words)
 
 
 class Web(Product):

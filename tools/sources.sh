@@ -6,7 +6,7 @@
 # the crates. One of the later lines whose file isn't in release/ isn't released.
 artifacts='
 program vemodel-x86_64-linux crates/vemodel/out/vemodel
-library libvemodel.so crates/vemodel_c/out/libvemodel.so
+library libvemodel.so.0 crates/vemodel_c/out/libvemodel.so.0
 header vemodel.h clients/c/vemodel.h
 notices THIRD-PARTY THIRD-PARTY
 web vemodel.wasm crates/vemodel_c/out/vemodel.wasm clients/web/heap.c tools/web.py tools/products.py
