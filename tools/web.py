@@ -124,8 +124,8 @@ def outside(line: str) -> str:
 def tested(function: list[str]) -> list[str]:
     """Returns a function that tests the stack, once its frame is laid out."""
     frame = max((at for at, line in enumerate(function) if ALLOCA.match(line)), default=1)
-    if any(line.endswith(":\n") or line == "\n" for line in function[2:frame]):
-        raise Refused(f"a frame that grows: {function[0]}")
+    if function[1] != "start:\n" or "\n" in function[2:frame]:
+        raise Refused(f"a function that isn't laid out at its start: {function[0]}")
     return [*function[: frame + 1], TEST, *function[frame + 1 : -1], TRAP]
 
 
