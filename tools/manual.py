@@ -40,7 +40,7 @@ def table(lines: list[str]) -> str:
     """Returns a table as a list: each row is what its first cell says, and the other cells below."""
     rows = [[cell.strip() for cell in re.split(r"(?<!\\)\|", line.strip("|"))] for line in lines]
     items = [f".TP\n{inline(first)}\n{inline('; '.join(others))}\n" for first, *others in rows[2:]]
-    is_of_statuses = rows[0][0] == "Number"
+    is_of_statuses = re.match(r"0\b", rows[2][0]) is not None
     return (".SH EXIT STATUS\n" if is_of_statuses else "") + "".join(items)
 
 
