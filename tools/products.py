@@ -59,7 +59,8 @@ class Product:
     def __init__(self, kit: str, folder: Path) -> None:
         self.kit, self.folder = kit, folder
 
-    def require(self) -> None:
+    @classmethod
+    def require(cls) -> None:
         """Raises Missing where this machine lacks what it is made with."""
 
     def toolchain(self) -> str:
@@ -120,10 +121,11 @@ class Arm(Product):
 
     flags = ("--target", AARCH64)
 
-    def require(self) -> None:
+    @classmethod
+    def require(cls) -> None:
         lacks = [str(it) for it in ARM_FILES if not it.exists()]
         if lacks:
-            raise Missing(f"{self.word} needs {lacks[0]}: install Debian's {ARM_PACKAGES}")
+            raise Missing(f"{cls.word} needs {lacks[0]}: install Debian's {ARM_PACKAGES}")
 
     def toolchain(self) -> str:
         folder = tools_of(self.kit, self.folder)
@@ -164,9 +166,10 @@ class Web(Product):
     word, crate, proved, made = "web", "vemodel_c", "web.a", ("vemodel.wasm",)
     flags = ("--cpu", "x86-64")
 
-    def require(self) -> None:
+    @classmethod
+    def require(cls) -> None:
         if not shutil.which("wasm-opt"):
-            raise Missing(f"{self.word} needs wasm-opt: install Debian's binaryen")
+            raise Missing(f"{cls.word} needs wasm-opt: install Debian's binaryen")
 
     def toolchain(self) -> str:
         return str(keeping(self.kit, self.folder))
