@@ -29,7 +29,7 @@ ARM_PACKAGES = "libc6-dev-arm64-cross and libgcc-12-dev-arm64-cross"
 WASM = """--target=wasm64-unknown-unknown -mcpu=lime1 -mllvm -expand-div-rem-bits=64 -mllvm -expand-fp-convert-bits=64 -ffunction-sections
  -fdata-sections -mllvm -trap-unreachable -mllvm -no-x86-call-frame-opt -mllvm -disable-machine-licm -mllvm -disable-postra-machine-licm
  -mllvm -sink-common-insts=false --no-default-config -no-canonical-prefixes -fno-crash-diagnostics -c""".split()
-# Each engine has what these name.
+# What the module needs of an engine, and the pass that takes away the first, which not each has.
 LOWER = """--enable-memory64 --enable-bulk-memory --enable-sign-ext --enable-mutable-globals --enable-nontrapping-float-to-int
  --enable-multivalue --memory64-lowering""".split()
 
