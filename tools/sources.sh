@@ -6,11 +6,12 @@
 # the crates. One of the later lines whose file isn't in release/ isn't released.
 artifacts='
 program vemodel-x86_64-linux crates/vemodel/out/vemodel
-library libvemodel.so crates/vemodel_c/out/libvemodel.so
+library libvemodel.so.0 crates/vemodel_c/out/libvemodel.so.0
 header vemodel.h clients/c/vemodel.h
-web vemodel.wasm crates/vemodel_c/out/vemodel.wasm
-program-aarch64 vemodel-aarch64-linux crates/vemodel/out/vemodel-aarch64-linux
-library-aarch64 libvemodel-aarch64.so crates/vemodel_c/out/libvemodel-aarch64.so
+notices THIRD-PARTY THIRD-PARTY
+web vemodel.wasm crates/vemodel_c/out/vemodel.wasm clients/web/heap.c tools/web.py tools/products.py
+program-aarch64 vemodel-aarch64-linux crates/vemodel/out/vemodel-aarch64-linux tools/aarch64.c tools/products.py
+library-aarch64 libvemodel-aarch64.so crates/vemodel_c/out/libvemodel-aarch64.so tools/aarch64.c tools/products.py
 '
 words=$(echo "$artifacts" | cut -d ' ' -f 1)
 sums=$top/release/SUMS
@@ -27,7 +28,7 @@ artifact() {
 
 # always WORD: an artifact that each release has.
 always() {
-    case $1 in program | library | header) ;; *) return 1 ;; esac
+    case $1 in program | library | header | notices) ;; *) return 1 ;; esac
 }
 
 # sum_of FILE: its SHA-256.
@@ -103,8 +104,20 @@ state() {
     echo "$seen" | sha256sum
 }
 
-# taken WORD: prints the file to take for an artifact: the one that was built of the sources as they are, or else the release's. Its
-# status is 1 where neither is there. Which file was found is noted, so that no sum is taken while nothing has changed.
+# standing WORD: prints the file of an artifact: the one that was built of the sources as they are, or else the release's. Its status is 1
+# where neither is there.
+standing() {
+    if is_built "$1"; then
+        echo "$built"
+    elif [ -z "$(unreleased "$1")" ]; then
+        echo "$released"
+    else
+        return 1
+    fi
+}
+
+# taken WORD: prints the file to take for an artifact, as `standing` does, and a program only where it runs. Which file was found is
+# noted, so that no sum is taken while nothing has changed.
 taken() {
     artifact "$1"
     note=$built.taken
@@ -113,13 +126,7 @@ taken() {
         echo "$top/$(head -n 1 "$note")"
         return
     fi
-    if is_built "$1"; then
-        file=$built
-    elif [ -z "$(unreleased "$1")" ]; then
-        file=$released
-    else
-        return 1
-    fi
+    file=$(standing "$1") || return 1
     case $1 in program*) runs "$file" || return 1 ;; esac
     # Where this can't be written, the sums are taken each time.
     { mkdir -p "${note%/*}" && printf '%s\n' "${file#"$top"/}" "$now" >"$note"; } 2>/dev/null || :
