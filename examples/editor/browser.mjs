@@ -26,9 +26,9 @@ async function soon(what, promise) {
   return Promise.race([promise, patience]).finally(() => clearTimeout(late));
 }
 
-// The server on these pages, at a port that is free. It has a page's address in `url`.
-export async function serve(program, ...files) {
-  const words = [fileURLToPath(new URL("server.mjs", import.meta.url)), "--port", "0", "--program", program, ...files];
+// The server with these words, which are pages and more, at a port that is free. It has its first page's address in `url`.
+export async function serve(program, ...rest) {
+  const words = [fileURLToPath(new URL("server.mjs", import.meta.url)), "--port", "0", "--program", program, ...rest];
   const server = spawn(process.execPath, words, { stdio: ["ignore", "pipe", "inherit"] });
   const url = await soon("the server", new Promise((tell, fail) => {
     server.stdout.setEncoding("utf8").once("data", (said) => tell(said.split("\n")[0]));
@@ -96,7 +96,7 @@ export class Browser {
   // A window of the editor, once it is ready.
   async edit(url) {
     const window = await this.open(url);
-    await until("the editor is ready", () => window.value("document.documentElement?.dataset.ready"));
+    await window.ready();
     return window;
   }
 
@@ -144,13 +144,24 @@ class Window {
     return result.value;
   }
 
-  // A key by its name, with what is held down: "Enter", "ctrl+b", "shift+ArrowLeft".
-  async key(name) {
+  ready() {
+    return until("the editor is ready", () => this.value("document.documentElement?.dataset.ready"));
+  }
+
+  async go(url) {
+    await this.call("Page.navigate", { url });
+    await this.ready();
+  }
+
+  // A key by its name, with what is held down: "Enter", "ctrl+b", "shift+ArrowLeft". The protocol wants to be told what a key of the
+  // browser's own does, as copy or selectAll.
+  async key(name, command = undefined) {
     const held = name.split("+").slice(0, -1), key = name.split("+").at(-1);
     const modifiers = (held.includes("ctrl") ? CTRL : 0) | (held.includes("shift") ? SHIFT : 0);
     const code = key.length === 1 ? `Key${key.toUpperCase()}` : key;
     const windowsVirtualKeyCode = KEYS[key] ?? key.toUpperCase().charCodeAt(0);
-    await this.#press({ key, code, windowsVirtualKeyCode, modifiers, text: key === "Enter" ? "\r" : undefined });
+    const commands = command && [command];
+    await this.#press({ key, code, windowsVirtualKeyCode, modifiers, text: key === "Enter" ? "\r" : undefined, commands });
   }
 
   // Events are sent ahead; the browser takes them in their order.
@@ -161,11 +172,6 @@ class Window {
     ]);
   }
 
-  // The key by which a browser pastes; the protocol wants to be told what it does.
-  paste() {
-    return this.#press({ key: "v", code: "KeyV", windowsVirtualKeyCode: 86, modifiers: CTRL, commands: ["paste"] });
-  }
-
   type(text) {
     return Promise.all([...text].map((char) => {
       const windowsVirtualKeyCode = /[a-z0-9 ]/i.test(char) ? char.toUpperCase().charCodeAt(0) : 0;
@@ -173,17 +179,39 @@ class Window {
     }));
   }
 
-  #mouse(type, [x, y]) {
-    return this.call("Input.dispatchMouseEvent", { type, x, y, button: "left", buttons: 1, clickCount: 1 });
+  // An input method that composes these texts in turn, and chooses the last one. `over` is how many letters before the caret it takes over.
+  async compose(texts, over = 0) {
+    const caret = await this.value("getSelection().focusOffset");
+    const place = over ? { replacementStart: caret - over, replacementEnd: caret } : {};
+    for (const text of texts) await this.call("Input.imeSetComposition", { text, selectionStart: text.length, selectionEnd: text.length, ...place });
+    await this.call("Input.insertText", { text: texts.at(-1) });
   }
 
-  click(at) {
-    return Promise.all([this.#mouse("mousePressed", at), this.#mouse("mouseReleased", at)]);
+  #mouse(type, [x, y], clickCount = 1) {
+    return this.call("Input.dispatchMouseEvent", { type, x, y, button: "left", buttons: 1, clickCount });
+  }
+
+  // So many clicks at one place.
+  async click(at, times = 1) {
+    for (let count = 1; count <= times; count++) {
+      await Promise.all([this.#mouse("mousePressed", at, count), this.#mouse("mouseReleased", at, count)]);
+    }
   }
 
   // From one place to another with the button held down.
-  drag(from, to) {
-    return Promise.all([this.#mouse("mousePressed", from), this.#mouse("mouseMoved", to), this.#mouse("mouseReleased", to)]);
+  async drag(from, to, steps = 1) {
+    await this.#mouse("mousePressed", from);
+    for (let step = 1; step <= steps; step++) {
+      const at = [0, 1].map((k) => from[k] + ((to[k] - from[k]) * step) / steps);
+      await this.#mouse("mouseMoved", at);
+    }
+    await this.#mouse("mouseReleased", to);
+  }
+
+  // Cuts the network off, or joins it again.
+  async offline(is) {
+    await this.call("Network.enable");
+    await this.call("Network.emulateNetworkConditions", { offline: is, latency: 0, downloadThroughput: -1, uploadThroughput: -1 });
   }
 
   close() {

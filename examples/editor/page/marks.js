@@ -22,7 +22,7 @@ export function toggled(root, selection, tags) {
   const [lo, hi] = ends(selection);
   const has = marksAt(root, selection).some(([tag]) => tags.includes(tag));
   const lines = has ? unmarked(root, lo, hi, tags) : [{ do: "mark", from: lo, to: hi, tag: tags[0] }];
-  return { lines: [batch(lines), select(...selection)] };
+  return { lines: [batch(lines), select(...selection)], what: "a mark" };
 }
 
 function unmarked(root, from, to, tags) {
@@ -63,8 +63,8 @@ export function linked(root, selection, address) {
   if (from === to) {
     if (!href) return null;
     const size = scalars(address);
-    return { lines: [batch([{ do: "text", at: from, text: address }, { ...mark, from, to: from + size }]), select(from + size)] };
+    return { lines: [batch([{ do: "text", at: from, text: address }, { ...mark, from, to: from + size }]), select(from + size)], what: "a link" };
   }
   const lines = [...unmarked(root, from, to, ["a"]), ...(href ? [{ ...mark, from, to }] : [])];
-  return lines.length ? { lines: [batch(lines), select(...selection)] } : null;
+  return lines.length ? { lines: [batch(lines), select(...selection)], what: "a link" } : null;
 }

@@ -4,7 +4,21 @@ import { scalars } from "./scalars.js";
 
 export const CONTENT = new Set(["p", "h1", "h2", "h3", "h4", "h5", "h6", "pre"]);
 const LEAVES = new Set(["br", "img", "ref", "trans_inline", "trans_block", "alien_inline", "alien_block"]);
-const FLOW = new Set(["root", "section", "li", "dt", "dd", "blockquote", "div", "td", "th", "caption"]);
+const FLOW = new Set(["root", "section", "li", "dt", "dd", "blockquote", "div", "td", "th", "caption", "internal_item"]);
+const BLOCKS = new Set([...CONTENT, "ul", "ol", "dl", "blockquote", "div", "table", "trans_block", "alien_block"]);
+const PARTS = {
+  ul: ["li"], ol: ["li"], dl: ["dt", "dd"], table: ["caption", "thead", "tbody", "tfoot"], thead: ["tr"], tbody: ["tr"], tfoot: ["tr"],
+  tr: ["td", "th"],
+};
+
+/** Whether a node of one kind may stand in one of another. */
+export function mayHold(outer, inner) {
+  if (CONTENT.has(outer)) return inner === "text" || (LEAVES.has(inner) && !inner.endsWith("block"));
+  if (PARTS[outer]) return PARTS[outer].includes(inner) || (LEAVES.has(inner) && inner.endsWith("block"));
+  if (inner === "section") return ["root", "section", "div"].includes(outer);
+  return FLOW.has(outer) && BLOCKS.has(inner);
+}
+
 // The text of references stands here, at the end of the list. It is counted, and not shown.
 export const HIDDEN = "internal_list";
 
@@ -57,7 +71,8 @@ export function itemsOf(nodes, out = []) {
 // Puts nodes in the place of the children from `from` to `to`.
 export function replaceKids(parent, from, to, nodes) {
   let grown = 0;
-  for (const kid of parent.kids.splice(from, to - from, ...nodes)) grown -= kid.size;
+  for (const kid of parent.kids.slice(from, to)) grown -= kid.size;
+  parent.kids = [...parent.kids.slice(0, from), ...nodes, ...parent.kids.slice(to)];
   for (const node of nodes) {
     node.parent = parent;
     grown += node.size;

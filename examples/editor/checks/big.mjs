@@ -1,0 +1,42 @@
+// A page of 1 MB: what is seen is drawn, and the rest as it comes near.
+import assert from "node:assert/strict";
+import { clickAfter, html, idle, keys, selectAll } from "../person.mjs";
+
+const WORDS = "A page of this many words is read, shown and typed in, here and there, as one of its <b>kind</b> would be. ";
+export const page = `<p>Here</p>\n${`<p>${WORDS.repeat(5)}</p>\n`.repeat(1800)}<p>There</p>`;
+
+// Milliseconds; some ten times of what an idle machine needs, and a fifth of what a page that is drawn as a whole needs.
+const OPENS = 2500, ERASES = 2500;
+
+async function workOf(person) {
+  const { metrics } = await person.call("Performance.getMetrics");
+  return metrics.find(({ name }) => name === "TaskDuration").value * 1000;
+}
+
+export async function check(browser, url) {
+  const ada = await browser.open("about:blank");
+  await ada.call("Performance.enable");
+  const blank = await workOf(ada);
+  await ada.go(url);
+  const opens = (await workOf(ada)) - blank;
+  const drawn = await ada.value("document.querySelectorAll('#page p').length");
+  assert.ok(drawn < 200, `${drawn} paragraphs are drawn at first`);
+  // to the end, where the last ones are drawn; typing there, and back
+  await keys(ada, "ctrl+End");
+  await ada.type("!");
+  await idle(ada);
+  assert.ok((await html(ada)).endsWith("There!</p>"));
+  await keys(ada, "ctrl+Home");
+  await clickAfter(ada, "Here");
+  await selectAll(ada);
+  const begin = performance.now();
+  await keys(ada, "Backspace");
+  const erases = performance.now() - begin;
+  assert.equal(await html(ada), "<p></p>");
+  await keys(ada, "ctrl+z");
+  assert.equal((await html(ada)).slice(0, 1000), page.slice(0, 1000));
+  assert.ok(opens < OPENS, `opening took ${opens.toFixed()} ms of work`);
+  assert.ok(erases < ERASES, `to erase all took ${erases.toFixed()} ms`);
+  await ada.close();
+  return { opens, erases };
+}

@@ -1,0 +1,3 @@
+// Who is who: the site of a window has a name here and a colour in editor.css.
+const NAMES = ["Ada", "Ben", "Cleo", "Dan", "Eva", "Finn", "Gus", "Hana"];
+export const nameOf = (site) => NAMES[site];

@@ -1,0 +1,57 @@
+// Tables: a new one, rows and columns, and the way from cell to cell. The program's `grid` says in which row and column a cell stands.
+import { ends, isCell } from "./edits.js";
+import { placed } from "./placing.js";
+import { around, endOf, innermost, isContent, parse, shown, startOf } from "./tree.js";
+
+const tableAt = (root, at) => around(innermost(root, at), (node) => node.kind === "table");
+export const cellAt = (root, selection) => around(innermost(root, ends(selection)[0]), (node) => ["td", "th"].includes(node.kind));
+
+const cell = [{ open: "td" }, { open: "p" }, { close: "p" }, { close: "td" }];
+const row = [{ open: "tr" }, ...cell, ...cell, ...cell, { close: "tr" }];
+const EMPTY = [{ open: "table" }, { open: "tbody" }, ...row, ...row, { close: "tbody" }, { close: "table" }];
+const FIRST_CELL = 5; // offsets from the place of the table to its first cell's text
+
+/** A table of two rows and three columns, with the caret in its first cell. */
+export function tabled(root, selection) {
+  const edit = placed(root, selection, parse(EMPTY), FIRST_CELL);
+  return typeof edit === "string" ? edit : { ...edit, what: "a table" };
+}
+
+// What each word of the menu asks of the program, by the cell's rectangle.
+const CHANGES = {
+  row_above: ({ row }) => ({ do: "row_in", row }),
+  row_below: ({ row, rows }) => ({ do: "row_in", row: row + rows }),
+  row_gone: ({ row }) => ({ do: "row_out", row }),
+  column_before: ({ column }) => ({ do: "col_in", column }),
+  column_after: ({ column, columns }) => ({ do: "col_in", column: column + columns }),
+  column_gone: ({ column }) => ({ do: "col_out", column }),
+};
+
+/** What the menu asks for; `grid` gives the cells of the table at a place. */
+export async function tableChanged(root, selection, word, grid) {
+  const table = tableAt(root, selection[0]);
+  if (!table) return "The caret isn't in a table";
+  const at = startOf(table), what = "a table's rows and columns";
+  if (word === "table_gone") return { lines: [{ do: "remove", from: at, to: endOf(table) }], what };
+  const place = startOf(cellAt(root, selection) ?? table);
+  const found = (await grid(at))?.find(([start]) => start === place);
+  if (!found) return "The rows and columns of this table aren't clear to the program";
+  const [, row, column, rows, columns] = found;
+  return { lines: [{ at, ...CHANGES[word]({ row, column, rows, columns }) }], what };
+}
+
+const firstText = (node) => (isContent(node) || shown(node).length === 0 ? startOf(node) + 1 : firstText(shown(node)[0]));
+
+function cellsOf(node) {
+  return shown(node).flatMap((kid) => (kid.kind === "td" || kid.kind === "th" ? [kid] : ["thead", "tbody", "tfoot", "tr"].includes(kid.kind) ? cellsOf(kid) : []));
+}
+
+/** Where the caret goes by Tab: into the next cell, or the one before; nowhere at the table's end. */
+export function besideCell(root, selection, back) {
+  const table = tableAt(root, selection[0]);
+  const cells = table ? cellsOf(table) : [];
+  const next = cells[cells.indexOf(cellAt(root, selection)) + (back ? -1 : 1)];
+  return next ? firstText(next) : null;
+}
+
+export const inTable = (root, selection) => around(innermost(root, ends(selection)[0]), isCell) !== null;
