@@ -1,9 +1,10 @@
 // Headless Chromium by the DevTools protocol: windows, real keys and the mouse. Node's own WebSocket is all that it needs. And the
 // server, as the check and the measurements start it.
 import { spawn } from "node:child_process";
-import { mkdtempSync, rmSync } from "node:fs";
+import { existsSync, mkdtempSync, readFileSync, rmSync } from "node:fs";
+import { createServer } from "node:http";
 import { tmpdir } from "node:os";
-import { join } from "node:path";
+import { extname, join } from "node:path";
 import { fileURLToPath } from "node:url";
 
 const PATIENCE = 15_000; // milliseconds; a loaded machine is slow, and one that fails is worth waiting for
@@ -26,7 +27,7 @@ async function soon(what, promise) {
   return Promise.race([promise, patience]).finally(() => clearTimeout(late));
 }
 
-// The server with these words, which are pages and more, at a port that is free. It has its first page's address in `url`.
+// The server with these words, which are pages and more, at a port that is free if they name none. It has its first page's address in `url`.
 export async function serve(program, ...rest) {
   const words = [fileURLToPath(new URL("server.mjs", import.meta.url)), "--port", "0", "--program", program, ...rest];
   const server = spawn(process.execPath, words, { stdio: ["ignore", "pipe", "inherit"] });
@@ -34,7 +35,30 @@ export async function serve(program, ...rest) {
     server.stdout.setEncoding("utf8").once("data", (said) => tell(said.split("\n")[0]));
     server.once("exit", () => fail(new Error("the server ended")));
   }));
-  return { url, close: () => server.kill() };
+  const ended = new Promise((end) => server.once("exit", end));
+  process.once("exit", () => server.kill());
+  return { url, close: () => (server.kill(), ended) };
+}
+
+function closed(server) {
+  const end = new Promise((tell) => server.close(tell));
+  server.closeAllConnections();
+  return end;
+}
+
+const TYPES = { ".html": "text/html", ".js": "text/javascript", ".css": "text/css", ".wasm": "application/wasm" };
+
+// Any web server: the files of a folder, and nothing else.
+export async function serveFiles(folder) {
+  const server = createServer((request, answer) => {
+    const { pathname } = new URL(request.url, "http://localhost");
+    const path = join(folder, pathname === "/" ? "index.html" : pathname);
+    if (!existsSync(path)) return answer.writeHead(404).end();
+    return answer.writeHead(200, { "content-type": TYPES[extname(path)] ?? "text/plain" }).end(readFileSync(path));
+  });
+  await new Promise((listening) => server.listen(0, "127.0.0.1", listening));
+  const { port } = server.address();
+  return { port, url: `http://127.0.0.1:${port}/`, close: () => closed(server) };
 }
 
 const CTRL = 2, SHIFT = 8;
@@ -150,6 +174,11 @@ class Window {
 
   async go(url) {
     await this.call("Page.navigate", { url });
+    await this.ready();
+  }
+
+  async reload() {
+    await this.value("delete document.documentElement.dataset.ready; location.reload()");
     await this.ready();
   }
 

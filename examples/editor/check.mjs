@@ -1,26 +1,30 @@
 // Drives windows with real keys and the mouse, and compares what they show with what their sites hold. Called by `check`:
 // node check.mjs CHROMIUM PROGRAM [PICTURE], where a picture of two windows is written to.
 import assert from "node:assert/strict";
+import { execFileSync } from "node:child_process";
 import { mkdtempSync, readFileSync, rmSync, writeFileSync } from "node:fs";
 import { tmpdir } from "node:os";
 import { join } from "node:path";
 import { fileURLToPath } from "node:url";
-import { Browser, serve } from "./browser.mjs";
-import * as alone from "./checks/alone.mjs";
+import { Browser, serve, serveFiles } from "./browser.mjs";
 import * as big from "./checks/big.mjs";
 import * as company from "./checks/company.mjs";
 import * as http from "./checks/http.mjs";
+import * as joining from "./checks/joining.mjs";
 import * as pictures from "./checks/pictures.mjs";
+import * as single from "./checks/single.mjs";
 import { clickAfter, dragOver, html, meet, notice } from "./person.mjs";
 
 const [chromium, program, picture] = process.argv.slice(2);
 const folder = mkdtempSync(join(tmpdir(), "editor-"));
-const sample = readFileSync(fileURLToPath(new URL("sample.html", import.meta.url)), "utf8");
+const here = (path) => fileURLToPath(new URL(path, import.meta.url));
+const sample = readFileSync(here("sample.html"), "utf8");
 // what must never run
 const SCRIPTS = `<script>hacked = 1</script>
 <p>Ends <img src="x" onerror="hacked = 1"><a href="javascript:hacked = 1" onclick="hacked = 1">here</a>.</p>
 `;
-const browser = await Browser.start(chromium);
+// two, so that both ways can be gone at once: each has a clipboard of its own
+const [browser, other] = await Promise.all([Browser.start(chromium), Browser.start(chromium)]);
 let failed = 0;
 
 async function check(name, act) {
@@ -34,20 +38,32 @@ async function check(name, act) {
   if (process.env.VERBOSE) console.log(`${(performance.now() - begin).toFixed().padStart(6)} ms  ${name}`);
 }
 
-// A page for each name, and the address of each in a server of its own.
-async function served(pages, ...words) {
-  const names = [...pages.keys()];
-  const files = names.map((name, k) => {
-    const path = join(folder, `${k}.html`);
-    writeFileSync(path, pages.get(name));
+// Files with these pages in a folder of their own.
+function written(pages) {
+  const to = mkdtempSync(join(folder, "pages-"));
+  return pages.map((page, k) => {
+    const path = join(to, `${k}.html`);
+    writeFileSync(path, page);
     return path;
   });
-  const server = await serve(program, ...words, ...files);
-  return { of: (name) => server.url.replace(/page=.*/, `page=${names.indexOf(name)}.html`), close: server.close };
+}
+
+// The editor's server, with these pages. `of` gives the address of one, by its number.
+async function withServer(pages, ...words) {
+  const server = await serve(program, ...words, ...written(pages));
+  return { ...server, of: (k) => server.url.replace(/page=.*/, `page=${k}.html`) };
+}
+
+// The same files, given by a web server that knows nothing of them.
+async function withoutServer(pages) {
+  const to = mkdtempSync(join(folder, "files-"));
+  execFileSync(process.execPath, [here("files.mjs"), to, ...written(pages)]);
+  const server = await serveFiles(to);
+  return { ...server, of: (k) => `${server.url}?page=${k}.html` };
 }
 
 // A window on a page, for as long as the act takes.
-async function visit(url, act) {
+async function visit(browser, url, act) {
   const person = await browser.edit(url);
   try {
     await act(person);
@@ -59,24 +75,22 @@ async function visit(url, act) {
   }
 }
 
-async function checkAlone() {
-  const server = await served(new Map([...alone.cases, ...alone.boxes].map(({ name, page }) => [name, page])));
-  for (const { name, act, wanted } of alone.cases) {
-    await check(name, () => visit(server.of(name), async (ada) => {
+async function checkSingle(way, browser, start) {
+  const all = [...single.cases, ...single.boxes];
+  const server = await start(all.map(({ page }) => page));
+  for (const [k, { name, act, wanted }] of all.entries()) {
+    await check(`${way}: ${name}`, () => visit(browser, server.of(k), async (ada) => {
+      if (!act) return assert.deepEqual(await single.boxesOf(ada), wanted);
       await act(ada);
-      assert.equal(await meet(ada), wanted);
+      return assert.equal(await meet(ada), wanted);
     }));
   }
-  for (const { name, wanted } of alone.boxes) {
-    await check(name, () => visit(server.of(name), async (ada) => assert.deepEqual(await alone.boxesOf(ada), wanted)));
-  }
-  server.close();
+  await server.close();
 }
 
 async function checkCompany() {
-  const server = await served(new Map([["sample", sample + SCRIPTS]]));
-  const url = server.of("sample");
-  const ada = await browser.edit(url), ben = await browser.edit(url);
+  const server = await withServer([sample + SCRIPTS]);
+  const ada = await browser.edit(server.of(0)), ben = await browser.edit(server.of(0));
   let expected = await html(ada);
   for (const [name, act, from, to] of company.steps) {
     await check(`company: ${name}`, async () => {
@@ -97,36 +111,47 @@ async function checkCompany() {
     for (const person of [ada, ben]) assert.equal(await person.value("typeof hacked"), "undefined");
   });
   await Promise.all([ada.close(), ben.close()]);
-  server.close();
+  await server.close();
 }
 
 async function checkServer() {
-  const server = await served(new Map([["sample", sample], ["big", big.page]]));
-  await check("http: windows that open at once", () => http.together(server.of("sample"), 3));
-  for (const { name, act } of http.cases) await check(name, () => act(server.of("sample")));
+  const server = await withServer([sample, big.page]);
+  await check("http: windows that open at once", () => http.together(server.of(0)));
+  await check("http: lines that a window writes", () => http.writing(server.of(0)));
+  for (const { name, act } of http.cases) await check(name, () => act(server.of(0)));
   await check("a page of 1 MB", async () => {
-    const { opens, erases } = await big.check(browser, server.of("big"));
+    const { opens, erases } = await big.check(browser, server.of(1));
     console.log(`1 MB: ${opens.toFixed()} ms of work to open, ${erases.toFixed()} ms to erase all`);
   });
-  server.close();
+  await server.close();
 }
 
 async function checkPictures() {
   const gallery = await pictures.gallery();
   for (const words of [[], ["--pictures", gallery.origin]]) {
-    const server = await served(new Map([["page", gallery.page]]), ...words);
-    await check(`pictures: ${words[0] ?? "none allowed"}`, () =>
-      visit(server.of("page"), (ada) => pictures.check(ada, gallery, words.length > 0)));
-    server.close();
+    const server = await withServer([gallery.page], ...words);
+    await check(`pictures: ${words[0] ?? "none allowed"}`, () => visit(browser, server.of(0), (ada) => pictures.check(ada, gallery, words.length > 0)));
+    await server.close();
   }
   gallery.close();
 }
 
-await checkAlone();
+async function checkJoining() {
+  const files = await withoutServer([joining.page]);
+  const again = (port) => serve(program, "--port", String(port), ...written([joining.page]));
+  await check("joining: alone, and later not", async () => {
+    const together = await joining.alone(browser, { ...files, url: files.of(0) }, again);
+    await joining.apart(together, again);
+  });
+}
+
+await Promise.all([checkSingle("with a server", browser, withServer), checkSingle("without one", other, withoutServer)]);
+await other.close();
+await checkJoining();
 await checkCompany();
 await checkServer();
 await checkPictures();
 await browser.close();
 rmSync(folder, { recursive: true });
-if (failed) process.exit(1);
-console.log("editor: ok");
+if (!failed) console.log("editor: ok");
+process.exit(failed ? 1 : 0); // a check that failed may have left a server

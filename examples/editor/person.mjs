@@ -3,12 +3,15 @@ import assert from "node:assert/strict";
 import { until } from "./browser.mjs";
 
 /** The page that the window's site holds. */
-export const html = async (person) => JSON.parse((await person.value("vemodel.link.read({ do: 'html' })")).slice(3));
+export const html = async (person) => JSON.parse((await person.value("vemodel.editor.session.read({ do: 'html' })")).slice(3));
 
-/** All that the keys so far asked for is on the screen. */
-export const idle = (person) => person.value("vemodel.editor.act(() => null).then(() => true)");
+/** What the keys and the mouse asked for so far is on the screen. */
+export const idle = (person) => person.value("vemodel.editor.look()");
+
+const isShared = (person) => person.value("vemodel.editor.session.ahead.lines.length === 0");
 
 export const notice = (person) => person.value("(({ hidden, textContent }) => hidden ? '' : textContent)(document.querySelector('#notice'))");
+export const state = (person) => person.value("document.querySelector('#state').textContent");
 export const shows = (person, selector) => person.value(`[...document.querySelectorAll(${JSON.stringify(selector)})].map((dom) => dom.textContent)`);
 
 /** Where a text of the page begins and ends on the screen. */
@@ -121,7 +124,7 @@ export async function meet(...people) {
   await until("all sites hold one page", async () => {
     const pages = new Set();
     for (const person of people) {
-      await idle(person);
+      if (!(await isShared(person))) return false;
       pages.add(await html(person));
     }
     return pages.size === 1;
@@ -129,7 +132,7 @@ export async function meet(...people) {
   for (const person of people) {
     const [shown, held, screen, fresh] = await person.value(`(async () => {
       const [tree, { Pairs }, { View }] = await Promise.all(["tree", "pairs", "view"].map((name) => import("./" + name + ".js")));
-      const held = JSON.parse((await vemodel.link.read({ do: "data" })).slice(3));
+      const held = JSON.parse(vemodel.editor.session.read({ do: "data" }).slice(3));
       const root = tree.newRoot(), host = document.createElement("div");
       const again = new View(host, root, new Pairs());
       again.update(root, 0, 0, tree.parse(held));

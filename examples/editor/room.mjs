@@ -1,188 +1,191 @@
-// A page that is edited: one program, and a site of it for each window.
+// A page that is edited: the log of its lines, a core that answers each of them first, and a site of it for each window.
 import { randomUUID } from "node:crypto";
-import { Core } from "../../clients/node/index.js";
-import { holes } from "./page/holes.js";
+import { sitesFor } from "./page/sites.js";
+import { sumOf } from "./page/sum.js";
 import { Rejected } from "./rejected.mjs";
 
-const SITES = 8; // as many as the program has
-const AWAY = 60_000; // milliseconds for which a window that lost its connection keeps its site
+const AWAY = 60_000; // milliseconds for which nobody else gets the site of a window that lost its connection
+const MOST = 48 << 20; // bytes of a log; a program reads at most 64 MiB
+const PIECE = 500; // lines of a log that are sent at once
 
-// What a window may ask. The rest is the room's: pages are opened and sites are joined here alone.
-const READ = new Set(["data", "html", "grid"]);
-const ASKED = new Set(["select", "type", "erase", "text", "remove", "split", "mark", "unmark", "wrap", "convert", "attr", "indent",
-  "outdent", "insert", "apply", "batch", "revoke", "row_in", "row_out", "col_in", "col_out"]);
+// What a window may write. It opens no page.
+const WRITTEN = new Set(["select", "type", "erase", "text", "remove", "split", "mark", "unmark", "wrap", "convert", "attr", "indent",
+  "outdent", "insert", "apply", "batch", "revoke", "row_in", "row_out", "col_in", "col_out", "undo", "redo", "send", "serve", "take"]);
 
 const accepted = (reply) => reply.startsWith("ok");
 
+// A line as a window spells it, which names its own site.
+function checked(line, isSite) {
+  let command;
+  try {
+    command = JSON.parse(line);
+  } catch {
+    throw new Rejected(400, "a line is JSON");
+  }
+  if (JSON.stringify(command) !== line || !line.isWellFormed()) throw new Rejected(400, "a line is spelled as JSON.stringify does");
+  if (!WRITTEN.has(command?.do) || !isSite(command.site)) throw new Rejected(400, "a window writes no such line");
+  return line;
+}
+
 export class Room {
+  #newCore;
   #core;
-  #page = randomUUID();
-  #windows = new Map();
-  #seen = Array(SITES).fill(0); // how many committed entries each site has seen
-  #from = Array.from({ length: SITES }, () => []); // for each site: which sites' changes wait for it at the server
-  #opened;
+  #log;
+  #lines;
+  #sums; // of the first lines, by their number
+  #bytes;
+  #counts; // of each site's lines
+  #windows = new Map(); // by their secrets: `{ site, wire, since, presence }`
   #turns = Promise.resolve();
-  #end;
-  ended = new Promise((tell) => (this.#end = tell));
 
-  constructor(program, page) {
-    this.#core = new Core(program);
-    this.#opened = this.#ask({ do: "open", page, sites: SITES }).then((reply) => {
-      if (!accepted(reply)) throw new Error(`the page was not opened: ${reply}`);
-    });
-    this.#opened.catch((error) => this.#fail(error));
+  /** `newCore` starts a core; `page` is the page as it is before anybody edits it. */
+  constructor(newCore, page) {
+    this.#newCore = newCore;
+    this.#inTurn(() => this.#begin(randomUUID(), [openLine(page)])).catch(() => {}); // who joins is told
   }
 
-  #ask(command) {
-    return this.#core.line(JSON.stringify(command));
+  // Another log in the place of this one. The windows are sent away, and come again.
+  async #begin(log, lines) {
+    const core = this.#newCore();
+    for (const line of lines) {
+      const reply = await core.line(line);
+      if (accepted(reply)) continue;
+      core.close();
+      throw new Rejected(409, `the core answers: ${reply}`);
+    }
+    this.#core?.close();
+    this.#core = core;
+    this.#log = log;
+    this.#lines = [];
+    this.#sums = [0];
+    this.#bytes = 0;
+    this.#counts = Array(JSON.parse(lines[0]).sites).fill(0);
+    lines.forEach((line) => this.#note(line));
+    this.close();
   }
 
-  #fail(error) {
-    this.#tell(null, "ended", { why: error.message });
-    this.#end(error.message);
+  /** Sends the windows away. They come again, to the room that is there then. */
+  close() {
+    for (const { wire } of this.#windows.values()) wire?.close();
+    this.#windows.clear();
   }
 
-  /** A window comes: it gets a site of its own, and a secret that names it from now on. One that was away comes back by its secret. */
-  join(send, known) {
+  #note(line) {
+    const { site } = JSON.parse(line);
+    this.#lines.push(line);
+    this.#sums.push(sumOf(this.#sums.at(-1), line));
+    this.#bytes += line.length;
+    if (site !== undefined) this.#counts[site]++;
+  }
+
+  // Has the core answer a line, and puts it into the log where it was accepted: a refusal changes nothing.
+  async #ask(line) {
+    const reply = await this.#core.line(line);
+    if (accepted(reply)) this.#note(line);
+    return reply;
+  }
+
+  /**
+   * A window comes, with what it has of the log. It gets a site, which it may have had before, and a secret that names it from now on; and
+   * the lines that it doesn't have.
+   */
+  join(wire, { id: known, site: wanted, log, length, sum }) {
     return this.#inTurn(async () => {
-      const back = this.#windows.get(known);
-      if (back) {
-        clearTimeout(back.leaving);
-        back.send = send;
-        send("hello", { id: known, ...(await this.#state(back.site)), changed: true });
-        return known;
-      }
-      const site = this.#free();
-      await this.#take(site);
-      const id = randomUUID();
-      send("hello", { id, page: this.#page, site, seen: this.#seen[site], others: await this.#others() });
-      this.#windows.set(id, { site, send, isNew: true, number: 0, answer: null });
+      const isKnown = log === this.#log && this.#sums[length] === sum;
+      const id = isKnown && known ? known : randomUUID();
+      const site = this.#windows.get(id)?.site ?? (await this.#free(isKnown ? wanted : undefined));
+      this.#windows.set(id, { site, wire });
+      wire.send("hello", { id, site, log: this.#log, length: this.#lines.length, isKnown, isUntouched: this.#lines.length === 1 });
+      for (let k = isKnown ? length : 0; k < this.#lines.length; k += PIECE) wire.send("lines", { lines: this.#lines.slice(k, k + PIECE) });
+      for (const { site: other, presence } of this.#windows.values()) if (presence) wire.send("presence", { site: other, ...presence });
       return id;
     });
   }
 
-  #free() {
-    const taken = new Set([...this.#windows.values()].map((window) => window.site));
-    const site = this.#seen.findIndex((_, k) => !taken.has(k));
-    if (site < 0) throw new Error(`${SITES} windows are open already`);
+  // A site that nobody has, or that of the window that has been away for longest. What was left there is joined with the rest.
+  async #free(wanted) {
+    const taken = new Set([...this.#windows.values()].map(({ site }) => site));
+    if (wanted in this.#counts && !taken.has(wanted)) return wanted;
+    const site = this.#counts.findIndex((_, k) => !taken.has(k));
+    return this.#cleared(site < 0 ? this.#takenBack() : site);
+  }
+
+  #takenBack() {
+    const away = [...this.#windows].filter(([, { wire, since }]) => !wire && Date.now() - since > AWAY);
+    if (away.length === 0) throw new Rejected(503, `${this.#counts.length} windows are open already`);
+    const [id, { site }] = away.reduce((a, b) => (a[1].since <= b[1].since ? a : b));
+    this.#windows.delete(id);
     return site;
   }
 
-  /** A window's connection is gone; if it doesn't come back its site is another's. */
-  leave(id, send) {
+  async #cleared(site) {
+    const first = this.#lines.length;
+    const can = async (what) => accepted(await this.#ask(JSON.stringify({ do: what, site })));
+    while ((await can("serve")) || (await can("take")) || (await can("send")));
+    this.#tellLines(first);
+    return site;
+  }
+
+  /** A window's connection is gone. */
+  leave(id, wire) {
     const window = this.#windows.get(id);
-    if (window?.send !== send) return; // it came back by another connection
-    window.send = () => {};
+    if (window?.wire !== wire) return; // it came back by another connection
+    Object.assign(window, { wire: null, presence: null, since: Date.now() });
     this.#tell(id, "left", { site: window.site });
-    window.leaving = setTimeout(() => this.#windows.delete(id), AWAY).unref();
   }
 
-  /**
-   * A turn of a window: its lines, all or none, then what joins its site with the others. Nobody's line comes between. So no submission is
-   * ever on its way when a turn begins, nor is anything unsent, even where a window is closed in the middle. In the end the window is given
-   * what changed in its list. A turn that was made already, whose answer was lost, is answered again.
-   */
-  turn(id, number, lines) {
+  /** Lines of a window, of which the first has this number among all of its site's. Those that are there already are passed. */
+  write(id, from, lines, presence) {
     return this.#inTurn(async () => {
-      const window = this.#window(id);
-      if (number !== window.number) {
-        window.answer = await this.#turn(id, window, lines);
-        window.number = number;
+      const window = this.#windows.get(id);
+      if (!window) throw new Rejected(410, "this window's place was given to another one");
+      const first = this.#lines.length, has = this.#counts[window.site];
+      if (from > has) throw new Rejected(409, "lines before these are missing");
+      try {
+        for (const line of lines.slice(has - from)) await this.#writeOne(checked(line, (site) => site === window.site));
+      } finally {
+        this.#tellLines(first);
       }
-      return window.answer;
+      if (presence) this.#tell(id, "presence", { site: window.site, ...(window.presence = presence) });
+      if (this.#bytes > MOST) await this.#renew();
     });
   }
 
-  async #turn(id, window, lines) {
-    const { site } = window;
-    const replies = await this.#allOrNone(site, lines);
-    const sent = accepted(await this.#ask({ do: "send", site }));
-    const kept = sent && (await this.#serve(site));
-    const { taken, dropped } = await this.#take(site);
-    const state = await this.#state(site);
-    this.#tell(id, "turn", { ...state, changed: kept });
-    return { replies, taken, dropped, ...(await this.#changes(window)), ...state };
+  async #writeOne(line) {
+    const reply = await this.#ask(line);
+    if (!accepted(reply)) throw new Rejected(409, `the server's core answers ${reply} to a line of this window`);
   }
 
-  async #allOrNone(site, lines) {
-    const replies = [];
-    for (const line of lines) {
-      replies.push(ASKED.has(line?.do) ? await this.#ask({ ...line, site }) : "no bad_command do");
-      if (accepted(replies.at(-1))) continue;
-      while (accepted(await this.#ask({ do: "undo", site })));
-      break;
-    }
-    return replies;
+  // The log begins anew, by the page as it is. What isn't joined yet is joined before.
+  async #renew() {
+    for (let k = 0; k < this.#counts.length; k++) await this.#cleared(k);
+    await this.#cleared(0);
+    const page = JSON.parse((await this.#core.line('{"do":"html"}')).slice(3));
+    await this.#begin(randomUUID(), [openLine(page)]);
   }
 
-  /** A line that changes nothing, and after which the site takes nothing: so it is read as the window's last turn left it. */
-  read(id, line) {
+  /** The log of a window that went on without a server, in the place of one to which nobody wrote. */
+  seed(old, log, lines) {
     return this.#inTurn(() => {
-      const { site } = this.#window(id);
-      return READ.has(line?.do) ? this.#ask({ ...line, site }) : "no bad_command do";
+      if (old !== this.#log || this.#lines.length > 1 || lines[0] !== this.#lines[0]) throw new Rejected(409, "there is another log of this page");
+      for (const line of lines.slice(1)) checked(line, (site) => site in this.#counts);
+      return this.#begin(log, lines);
     });
-  }
-
-  #window(id) {
-    if (!this.#windows.has(id)) throw new Rejected(410, "this window isn't open");
-    return this.#windows.get(id);
-  }
-
-  // Whether something of the site's submission was committed. The others are to be told whose it is.
-  async #serve(site) {
-    const [, count] = (await this.#ask({ do: "serve", site })).split(" ");
-    if (+count > 0) this.#from.forEach((waiting, other) => other !== site && waiting.push(site));
-    this.#from[site].push(site);
-    return +count > 0;
-  }
-
-  // Hands the site all that the server has for it, and says for whose change one of its own was dropped.
-  async #take(site) {
-    const taken = [];
-    let dropped = null;
-    for (;;) {
-      const [word, what, count, , lost] = (await this.#ask({ do: "take", site })).split(" ");
-      if (word === "no") return { taken, dropped };
-      const whose = this.#from[site].shift();
-      taken.push({ [what]: +count });
-      if (+(lost ?? 0) > 0) dropped = whose;
-      this.#seen[site] += +count;
-    }
-  }
-
-  // The patches that lead from the list that a window shows to its site's, and the items that came, each run of them with its place. A
-  // window that is new shows nothing, whatever its site told the one before.
-  async #changes(window) {
-    const { site, isNew } = window;
-    const [, length, told] = (await this.#ask({ do: "changes", site })).split(" ");
-    window.isNew = false;
-    const patches = isNew ? [[0, 0, +length]] : JSON.parse(told);
-    const came = holes(patches).map(async ([from, to]) => [from, JSON.parse((await this.#ask({ do: "data", from, to, site })).slice(3))]);
-    return { patches, came: await Promise.all(came) };
-  }
-
-  async #state(site) {
-    const caret = (await this.#ask({ do: "caret", site })).split(" ").slice(1).map(Number);
-    return { site, seen: this.#seen[site], caret };
-  }
-
-  #others() {
-    return Promise.all([...this.#windows.values()].map(({ site }) => this.#state(site)));
   }
 
   #inTurn(act) {
-    const turn = this.#turns.then(() => this.#opened).then(act);
-    this.#turns = turn.catch((error) => {
-      if (error.name === "Ended") this.#fail(error);
-    });
+    const turn = this.#turns.then(act);
+    this.#turns = turn.catch(() => {});
     return turn;
   }
 
-  #tell(but, event, data) {
-    for (const [id, { send }] of this.#windows) if (id !== but) send(event, data);
+  #tellLines(first) {
+    if (first < this.#lines.length) this.#tell(null, "lines", { lines: this.#lines.slice(first) });
   }
 
-  close() {
-    return this.#core.close();
+  #tell(but, event, data) {
+    for (const [id, { wire }] of this.#windows) if (id !== but) wire?.send(event, data);
   }
 }
+
+const openLine = (page) => JSON.stringify({ do: "open", page, sites: sitesFor(page) });

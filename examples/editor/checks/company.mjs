@@ -1,7 +1,7 @@
 // Two windows on one page, one after the other and at once.
 import assert from "node:assert/strict";
 import { until } from "../browser.mjs";
-import { choose, clickAfter, clickOn, dragOver, html, idle, keys, meet, notice, paste, press } from "../person.mjs";
+import { choose, clickAfter, clickOn, dragOver, html, idle, keys, meet, notice, paste, press, state } from "../person.mjs";
 
 const holds = (person, text) => until(`the page holds ${text}`, async () => (await html(person)).includes(text));
 const count = (page, letter) => page.split(letter).length - 1;
@@ -86,7 +86,7 @@ export async function away(ada, ben) {
   await clickAfter(ada, "Select some");
   await ada.offline(true);
   await ada.type("OFF");
-  await until("the loss is told", async () => /isn't there/.test(await notice(ada)));
+  await until("the loss is told", async () => /isn't there/.test(await state(ada)));
   await clickAfter(ben, "Undo");
   await ben.type("BEN");
   await idle(ben);

@@ -4,7 +4,8 @@ import http from "node:http";
 
 const own = (url) => new URL(url).host;
 const evil = { origin: "http://evil.example" };
-const BIG = 9 << 20;
+const BIG = 17 << 20;
+const LINES = (lines) => `{"id":"x","from":0,"lines":${lines}}`;
 
 // A request by its method, path, headers and body, and the status that is wanted.
 const requests = [
@@ -14,17 +15,19 @@ const requests = [
   ["another of them", "GET", "/__proto__", {}, "", 404],
   ["what stands above", "GET", "/../server.mjs", {}, "", 404],
   ["the same, hidden", "GET", "/..%2fserver.mjs", {}, "", 404],
-  ["a page that isn't there", "POST", "/turn?page=__proto__", {}, '{"id":"x","number":1,"lines":[]}', 404],
+  ["a page that isn't there", "POST", "/lines?page=__proto__", {}, LINES("[]"), 404],
   ["another host", "GET", "/", { host: "evil.example" }, "", 403],
   ["a host that begins like ours", "GET", "/", { host: "127.0.0.1.evil" }, "", 403],
   ["events from another origin", "GET", "/events", evil, "", 403],
   ["events from another site", "GET", "/events", { "sec-fetch-site": "cross-site" }, "", 403],
-  ["a turn from another origin", "POST", "/turn", evil, "{}", 403],
-  ["another method", "PUT", "/turn", {}, "{}", 405],
-  ["no JSON", "POST", "/turn", {}, "{", 400],
-  ["no lines", "POST", "/turn", {}, '{"id":"x","number":1,"lines":5}', 400],
-  ["a window that isn't there", "POST", "/turn", {}, '{"id":"x","number":1,"lines":[]}', 410],
-  ["a body without an end", "POST", "/turn", {}, "x".repeat(BIG), 413],
+  ["lines from another origin", "POST", "/lines", evil, LINES("[]"), 403],
+  ["another method", "PUT", "/lines", {}, LINES("[]"), 405],
+  ["no JSON", "POST", "/lines", {}, "{", 400],
+  ["no lines", "POST", "/lines", {}, LINES("5"), 400],
+  ["lines that are no texts", "POST", "/lines", {}, LINES("[5]"), 400],
+  ["a window that isn't there", "POST", "/lines", {}, LINES("[]"), 410],
+  ["another log, where there is one", "POST", "/log", {}, '{"old":"x","log":"y","lines":["{}"]}', 409],
+  ["a body without an end", "POST", "/lines", {}, "x".repeat(BIG), 413],
 ];
 
 function status(url, method, path, headers, body) {
@@ -45,15 +48,39 @@ export const cases = requests.map(([name, method, path, headers, body, wanted]) 
   act: async (url) => assert.equal(await status(url, method, path, headers, body), wanted),
 }));
 
-/** Windows that open at once share one page: each its own site, and each hears of what the others type. */
-export async function together(url, count) {
-  const greetings = await Promise.all(Array.from({ length: count }, async () => {
-    const answer = await fetch(new URL("/events", url));
-    const reader = answer.body.getReader();
-    const { value } = await reader.read();
-    return { reader, hello: JSON.parse(new TextDecoder().decode(value).split("data: ")[1]) };
-  }));
-  assert.deepEqual(greetings.map(({ hello }) => hello.site).sort(), Array.from({ length: count }, (_, k) => k));
-  assert.equal(new Set(greetings.map(({ hello }) => hello.page)).size, 1);
-  await Promise.all(greetings.map(({ reader }) => reader.cancel()));
+// A window as the server sees it: what it was told first, and its connection.
+async function windowOf(url) {
+  const answer = await fetch(new URL("/events", url));
+  const reader = answer.body.getReader();
+  const { value } = await reader.read();
+  return { hello: JSON.parse(new TextDecoder().decode(value).split("data: ")[1].split("\n")[0]), close: () => reader.cancel() };
+}
+
+/** Windows that open at once share one log, and each has a site of its own. */
+export async function together(url) {
+  const windows = await Promise.all([0, 1, 2].map(() => windowOf(url)));
+  assert.deepEqual(windows.map(({ hello }) => hello.site).sort(), [0, 1, 2]);
+  assert.equal(new Set(windows.map(({ hello }) => hello.log)).size, 1);
+  await Promise.all(windows.map(({ close }) => close()));
+}
+
+// Lines of a window that are no window's to write.
+const lines = (site) => [
+  ["another page", { do: "open", page: "x" }, 400],
+  ["a line of another's", { do: "type", text: "x", site: (site + 1) % 8 }, 400],
+  ["half of a sign", { do: "type", text: "\ud800" }, 409],
+  ["what the core refuses", { do: "remove", from: 5, to: 5 }, 409],
+  ["a word of JavaScript's own", { do: "constructor" }, 400],
+  ["a line of its own", { do: "select", anchor: 1, focus: 1 }, 204],
+];
+
+/** What a window may write. */
+export async function writing(url) {
+  const { hello: { id, site, log }, close } = await windowOf(url);
+  for (const [name, command, wanted] of lines(site)) {
+    const body = JSON.stringify({ id, log, from: 0, lines: [JSON.stringify({ site, ...command })] });
+    const answer = await fetch(new URL("/lines", url), { method: "POST", body });
+    assert.equal(answer.status, wanted, name);
+  }
+  await close();
 }

@@ -1,6 +1,7 @@
 // Input methods, as phones and those of East Asia have. They write into the document by themselves, over words that stood there too. When
 // one is done what its branch shows is compared with the tree: the difference is taken out of the document, and typed as any other text.
 import { ends, select } from "./edits.js";
+import { typed } from "./text.js";
 import { commonOf, innerStart, innermost, isContent, isText } from "./tree.js";
 import { scalars } from "./scalars.js";
 
@@ -28,13 +29,12 @@ function difference(before, after, caret) {
 }
 
 export function listenToInputMethods(host, editor) {
-  let release = null;
   let branch = null; // the branch in which it writes, where it is one
 
   host.addEventListener("compositionstart", () => {
     const [lo, hi] = ends(editor.selection).map((at) => innermost(editor.root, at));
     branch = lo === hi && isContent(lo) ? lo : null;
-    editor.hold(new Promise((end) => (release = end)));
+    editor.hold();
   });
 
   host.addEventListener("compositionend", ({ data }) => {
@@ -42,11 +42,8 @@ export function listenToInputMethods(host, editor) {
     const [lo, hi] = ends(editor.selection);
     editor.view.redraw(branch ?? commonOf(innermost(editor.root, lo), innermost(editor.root, hi)));
     editor.places.select(...editor.selection);
-    editor.hold(null);
-    release();
-    // at the caret it is typed, behind what is still on its way
-    if (change && !(change.from === change.to && change.from === lo && lo === hi)) editor.act(() => written(change));
-    else if (change?.text ?? data) editor.type(change?.text ?? data);
+    editor.act(() => (change ? written(change) : data ? typed(editor.root, editor.selection, data) : null));
+    editor.release();
   });
 
   // What the branch shows that isn't in the tree, and where the caret stands in it.

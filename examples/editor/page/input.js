@@ -5,16 +5,6 @@ import { besideCell, inTable, tableChanged } from "./tables.js";
 import { broken, parted } from "./text.js";
 import { caretPlace, shown } from "./tree.js";
 
-// The keys by which the browser moves the caret: the direction, by what, and by what with Ctrl.
-const MOVES = {
-  ArrowLeft: ["left", "character", "word"],
-  ArrowRight: ["right", "character", "word"],
-  ArrowUp: ["backward", "line", "paragraph"],
-  ArrowDown: ["forward", "line", "paragraph"],
-  Home: ["backward", "lineboundary"],
-  End: ["forward", "lineboundary"],
-};
-
 const endOfShown = (root) => shown(root).reduce((size, kid) => size + kid.size, 0);
 
 export function listen(host, editor, shortcuts) {
@@ -53,35 +43,24 @@ export function listen(host, editor, shortcuts) {
     });
   }
 
-  // The browser moves the caret on what is shown. Where keys before aren't on the screen yet, the move waits its turn as they do.
-  function move({ key, shiftKey, ctrlKey }) {
-    const [direction, by, byWithCtrl] = MOVES[key];
-    editor.act(() => {
-      document.getSelection().modify(shiftKey ? "extend" : "move", direction, ctrlKey ? byWithCtrl : by);
-      editor.look();
-    });
-  }
-
   // Tab goes from cell to cell, and makes a row at a table's end; in a list it takes the item deeper. Elsewhere it leads out of the page.
   function tab(back) {
     return editor.act(({ root, selection }) => {
       if (!inTable(root, selection)) return (back ? outdented : indented)(root, selection);
       const next = besideCell(root, selection, back);
       if (next !== null) return editor.place([next, next]);
-      return back ? null : tableChanged(root, selection, "row_below", editor.grid);
+      return back ? null : tableChanged(root, selection, "row_below", editor);
     });
   }
 
   host.addEventListener("keydown", (event) => {
     if (event.isComposing) return;
-    const toEnds = event.ctrlKey && (event.key === "Home" || event.key === "End");
-    if (toEnds || (MOVES[event.key] && editor.busy)) {
+    if (event.ctrlKey && (event.key === "Home" || event.key === "End")) {
       event.preventDefault();
-      (toEnds ? toEnd : move)(event);
-      return;
+      toEnd(event);
     }
     const { root, selection } = editor;
-    if (event.key === "Tab" && (editor.busy || inTable(root, selection) || kindsAt(root, selection).list)) {
+    if (event.key === "Tab" && (inTable(root, selection) || kindsAt(root, selection).list)) {
       event.preventDefault();
       tab(event.shiftKey);
     }

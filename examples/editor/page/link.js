@@ -1,69 +1,113 @@
-// What goes over the wire: a turn is a POST, and the server tells of others' turns by server-sent events. A request that is lost is sent
-// again: the server knows the number of a turn, and gives the answer that it gave.
+// What goes over the wire: the log's lines come by server-sent events, and own lines go by POST. A request that is lost is sent again: the
+// server counts each site's lines, and passes those that it has.
 const PAUSE = 500; // milliseconds between two tries
 
 export class Link {
-  #id = null;
-  #number = 0;
-  #query = location.search;
+  isThere = false;
+  #page;
   #heard;
+  #claim;
+  #events = null;
+  #trying; // a timer
+  #id = null;
+  #session = null;
+  #written = 0; // how many of the site's lines the server has
+  #presence = null; // what the others are to be told
+  #isWriting = false;
 
-  /** `heard` has a function for each event: hello, turn, left, ended, and connected, with whether the server is there. */
-  constructor(heard) {
+  /** `heard` has a function for each event: hello, lines, presence, left, ended, and lost, where the server isn't there. */
+  constructor(page, heard) {
+    this.#page = page;
     this.#heard = heard;
-    this.#listen();
   }
 
-  #listen() {
-    const query = new URLSearchParams(this.#query);
-    if (this.#id) query.set("id", this.#id);
-    const events = new EventSource(`events?${query}`);
+  /** Asks for the page's log, again and again until it is there. `claim` says what the window has of it. */
+  connect(claim) {
+    this.#stop();
+    this.#claim = claim;
+    const events = new EventSource(`events?${new URLSearchParams({ page: this.#page, ...claim() })}`);
+    this.#events = events;
     const on = (event, act) => events.addEventListener(event, ({ data }) => act(JSON.parse(data)));
-    on("hello", (hello) => this.#greet(hello));
-    on("turn", this.#heard.turn);
-    on("left", this.#heard.left);
-    on("ended", (why) => {
-      events.close();
-      this.#heard.ended(why);
+    on("hello", (hello) => {
+      this.#id = hello.id;
+      this.#heard.hello(hello);
     });
-    // the browser's own tries would begin as a new window
-    events.onerror = () => {
-      events.close();
-      this.#heard.connected(false);
-      setTimeout(() => this.#listen(), PAUSE);
-    };
-    events.onopen = () => this.#heard.connected(true);
+    for (const event of ["lines", "presence", "left"]) on(event, this.#heard[event]);
+    on("ended", ({ why }) => this.#refuse(why));
+    // the browser's own tries would claim what the window had at first
+    events.onerror = () => this.#lose();
   }
 
-  #greet(hello) {
-    if (hello.id === this.#id) return this.#heard.turn(hello);
-    // a server that was started anew doesn't know the window
-    if (this.#id) return location.reload();
-    this.#id = hello.id;
-    return this.#heard.hello(hello);
+  #stop() {
+    clearTimeout(this.#trying);
+    this.#events?.close();
+    this.isThere = false;
   }
 
-  /** Lines that are done as a whole, or not at all; then this window's site meets the others. Their answer tells what changed. */
-  turn(lines) {
-    return this.#post("turn", { lines, number: ++this.#number });
+  #lose() {
+    this.#stop();
+    this.#heard.lost();
+    this.#trying = setTimeout(() => this.reconnect(), PAUSE);
   }
 
-  /** A line that changes nothing. The site stays as the last turn left it, whatever others did since. */
-  read(line) {
-    return this.#post("read", { line });
+  reconnect() {
+    this.connect(this.#claim);
   }
 
-  async #post(path, body) {
-    const request = { method: "POST", body: JSON.stringify({ id: this.#id, ...body }) };
-    for (;;) {
-      const answer = await fetch(path + this.#query, request).catch(() => null);
-      if (answer) this.#heard.connected(true);
-      if (answer?.ok) return answer.json();
-      if (answer && answer.status < 500) throw new Error(await answer.text());
-      this.#heard.connected(false);
-      await new Promise((next) => setTimeout(next, PAUSE));
+  /** From now on own lines go to the server. */
+  begin(session) {
+    this.#session = session;
+    this.#written = 0;
+    this.isThere = true;
+    session.resume();
+  }
+
+  write() {
+    this.#post();
+  }
+
+  /** Where this window's selection is, for the others. */
+  tell(presence) {
+    this.#presence = presence;
+    this.#post();
+  }
+
+  /** Gives the server another log in the place of one that nobody wrote to. Whether it took it. */
+  async seed(old, log, lines) {
+    const answer = await this.#ask("log", { old, log, lines });
+    return answer?.ok ?? false;
+  }
+
+  #ask(what, body) {
+    const query = new URLSearchParams({ page: this.#page });
+    return fetch(`${what}?${query}`, { method: "POST", body: JSON.stringify(body) }).catch(() => null);
+  }
+
+  // Lines that come while others are on their way go together after these.
+  async #post() {
+    if (this.#isWriting || !this.isThere) return;
+    this.#isWriting = true;
+    await null; // what is done at once goes at once
+    for (let body; this.isThere && (body = this.#next()); ) {
+      const answer = await this.#ask("lines", body);
+      if (answer?.ok) this.#written = Math.max(this.#written, body.from + body.lines.length);
+      else if (answer && answer.status < 500) this.#refuse(await answer.text());
+      else this.#lose();
     }
+    this.#isWriting = false;
+  }
+
+  // The server takes no more of this window.
+  #refuse(why) {
+    this.#stop();
+    this.#heard.ended({ why });
+  }
+
+  #next() {
+    const { from, lines } = this.#session.ahead;
+    const begin = Math.max(from, this.#written), presence = this.#presence;
+    const rest = lines.slice(begin - from);
+    this.#presence = null;
+    return rest.length || presence ? { id: this.#id, from: begin, lines: rest, presence } : null;
   }
 }
-
-export const accepted = (reply) => reply?.startsWith("ok") ?? false;

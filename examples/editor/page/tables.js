@@ -27,14 +27,14 @@ const CHANGES = {
   column_gone: ({ column }) => ({ do: "col_out", column }),
 };
 
-/** What the menu asks for; `grid` gives the cells of the table at a place. */
-export async function tableChanged(root, selection, word, grid) {
+/** What the menu asks for; the editor's `grid` gives the cells of the table at a place. */
+export function tableChanged(root, selection, word, editor) {
   const table = tableAt(root, selection[0]);
   if (!table) return "The caret isn't in a table";
   const at = startOf(table), what = "a table's rows and columns";
   if (word === "table_gone") return { lines: [{ do: "remove", from: at, to: endOf(table) }], what };
   const place = startOf(cellAt(root, selection) ?? table);
-  const found = (await grid(at))?.find(([start]) => start === place);
+  const found = editor.grid(at)?.find(([start]) => start === place);
   if (!found) return "The rows and columns of this table aren't clear to the program";
   const [, row, column, rows, columns] = found;
   return { lines: [{ at, ...CHANGES[word]({ row, column, rows, columns }) }], what };

@@ -51,7 +51,7 @@ export function toolbar(bar, host, editor) {
   choose(kind, converted);
   choose(table, (root, selection, word) => {
     table.value = "";
-    return tableChanged(root, selection, word, editor.grid);
+    return tableChanged(root, selection, word, editor);
   });
 
   function show() {
