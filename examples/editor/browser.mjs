@@ -61,7 +61,7 @@ export async function serveFiles(folder) {
   return { port, url: `http://127.0.0.1:${port}/`, close: () => closed(server) };
 }
 
-const CTRL = 2, SHIFT = 8;
+const ALT = 1, CTRL = 2, SHIFT = 8;
 const KEYS = { Enter: 13, Backspace: 8, Tab: 9, Escape: 27, End: 35, Home: 36, ArrowLeft: 37, ArrowUp: 38, ArrowRight: 39, ArrowDown: 40, Delete: 46 };
 
 export class Browser {
@@ -186,7 +186,7 @@ class Window {
   // browser's own does, as copy or selectAll.
   async key(name, command = undefined) {
     const held = name.split("+").slice(0, -1), key = name.split("+").at(-1);
-    const modifiers = (held.includes("ctrl") ? CTRL : 0) | (held.includes("shift") ? SHIFT : 0);
+    const modifiers = (held.includes("alt") ? ALT : 0) | (held.includes("ctrl") ? CTRL : 0) | (held.includes("shift") ? SHIFT : 0);
     const code = key.length === 1 ? `Key${key.toUpperCase()}` : key;
     const windowsVirtualKeyCode = KEYS[key] ?? key.toUpperCase().charCodeAt(0);
     const commands = command && [command];
@@ -225,6 +225,10 @@ class Window {
     for (let count = 1; count <= times; count++) {
       await Promise.all([this.#mouse("mousePressed", at, count), this.#mouse("mouseReleased", at, count)]);
     }
+  }
+
+  move(to) {
+    return this.call("Input.dispatchMouseEvent", { type: "mouseMoved", x: to[0], y: to[1], button: "none", buttons: 0 });
   }
 
   // From one place to another with the button held down.

@@ -13,6 +13,7 @@ import * as http from "./checks/http.mjs";
 import * as joining from "./checks/joining.mjs";
 import * as pictures from "./checks/pictures.mjs";
 import * as single from "./checks/single.mjs";
+import * as whole from "./checks/whole.mjs";
 import { clickAfter, dragOver, html, meet, notice } from "./person.mjs";
 
 const [chromium, program, picture] = process.argv.slice(2);
@@ -76,7 +77,7 @@ async function visit(browser, url, act) {
 }
 
 async function checkSingle(way, browser, start) {
-  const all = [...single.cases, ...single.boxes];
+  const all = [...single.cases, ...single.boxes, ...(isWhole ? whole.cases : [])];
   const server = await start(all.map(({ page }) => page));
   for (const [k, { name, act, wanted }] of all.entries()) {
     await check(`${way}: ${name}`, () => visit(browser, server.of(k), async (ada) => {
@@ -136,6 +137,25 @@ async function checkPictures() {
   gallery.close();
 }
 
+// Whether the core knows `live` and `exact`.
+async function knowsWhole() {
+  const server = await withoutServer([whole.page]);
+  let isKnown = false;
+  await visit(browser, server.of(0), async (ada) => (isKnown = await whole.isKnown(ada)));
+  await server.close();
+  if (!isKnown) console.log("skipped: undo in company and what is kept whole, as this core knows neither live nor exact");
+  return isKnown;
+}
+
+async function checkWhole() {
+  const server = await withServer([whole.page]);
+  const ada = await browser.edit(server.of(0)), ben = await browser.edit(server.of(0));
+  await check("whole: ten changes undone and made again", () => whole.tenChanges(ada, ben));
+  await check("whole: under what was taken back", () => whole.under(ada, ben));
+  await Promise.all([ada.close(), ben.close()]);
+  await server.close();
+}
+
 async function checkJoining() {
   const files = await withoutServer([joining.page]);
   const again = (port) => serve(program, "--port", String(port), ...written([joining.page]));
@@ -145,12 +165,14 @@ async function checkJoining() {
   });
 }
 
+const isWhole = await knowsWhole();
 await Promise.all([checkSingle("with a server", browser, withServer), checkSingle("without one", other, withoutServer)]);
 await other.close();
 await checkJoining();
 await checkCompany();
 await checkServer();
 await checkPictures();
+if (isWhole) await checkWhole();
 await browser.close();
 rmSync(folder, { recursive: true });
 if (!failed) console.log("editor: ok");

@@ -10,6 +10,9 @@ export const idle = (person) => person.value("vemodel.editor.look()");
 
 const isShared = (person) => person.value("vemodel.editor.session.ahead.lines.length === 0");
 
+/** The server has all that was done. */
+export const shared = (person) => until("all is shared", () => isShared(person));
+
 export const notice = (person) => person.value("(({ hidden, textContent }) => hidden ? '' : textContent)(document.querySelector('#notice'))");
 export const state = (person) => person.value("document.querySelector('#state').textContent");
 export const shows = (person, selector) => person.value(`[...document.querySelectorAll(${JSON.stringify(selector)})].map((dom) => dom.textContent)`);

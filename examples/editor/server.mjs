@@ -5,7 +5,7 @@ import { createServer } from "node:http";
 import { basename, extname } from "node:path";
 import { parseArgs } from "node:util";
 import { Core } from "../../clients/node/index.js";
-import { filesOf, here } from "./files.mjs";
+import { filesOf, here, moduleOf } from "./files.mjs";
 import { Rejected } from "./rejected.mjs";
 import { Room } from "./room.mjs";
 
@@ -13,7 +13,7 @@ const { values, positionals } = parseArgs({
   allowPositionals: true,
   options: {
     port: { type: "string", default: "8360" },
-    program: { type: "string", default: process.env.VEMODEL ?? here("../../bin/vemodel") },
+    program: { type: "string", default: process.env.VEMODEL },
     module: { type: "string" },
     pictures: { type: "string", multiple: true, default: [] },
   },
@@ -37,9 +37,10 @@ function room(name) {
   return rooms.get(name);
 }
 
-// Where a core ends, the room goes with it; a window that comes again brings its log.
+// The module that the pages have, or a program of the same sources. Where a core ends, the room goes with it; a window that comes again
+// brings its log.
 function coreOf(name) {
-  const core = new Core(values.program);
+  const core = new Core(values.program ? { program: values.program } : { module: moduleOf(values.module) });
   core.ended.then((why) => {
     if (why.status === 0) return;
     console.error(`${name}: ${why.message}`);

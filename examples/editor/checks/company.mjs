@@ -1,7 +1,7 @@
 // Two windows on one page, one after the other and at once.
 import assert from "node:assert/strict";
 import { until } from "../browser.mjs";
-import { choose, clickAfter, clickOn, dragOver, html, idle, keys, meet, notice, paste, press, state } from "../person.mjs";
+import { choose, clickAfter, clickOn, dragOver, html, keys, meet, notice, paste, press, shared, state } from "../person.mjs";
 
 const holds = (person, text) => until(`the page holds ${text}`, async () => (await html(person)).includes(text));
 const count = (page, letter) => page.split(letter).length - 1;
@@ -74,7 +74,7 @@ export async function dropped(ada, ben) {
   await ada.offline(true);
   await ada.key("ctrl+i");
   await ben.type("!");
-  await idle(ben);
+  await shared(ben);
   await ada.offline(false);
   await until("the drop is told", async () => /^Ben changed .* dropped: a mark$/.test(await notice(ada)));
   await meet(ada, ben);
@@ -89,7 +89,7 @@ export async function away(ada, ben) {
   await until("the loss is told", async () => /isn't there/.test(await state(ada)));
   await clickAfter(ben, "Undo");
   await ben.type("BEN");
-  await idle(ben);
+  await shared(ben);
   await ada.offline(false);
   await holds(ben, "Select someOFF");
   await holds(ada, "UndoBEN");

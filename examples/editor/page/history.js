@@ -1,6 +1,6 @@
 // Undo and redo of what this window did. A change is shared at once, so it is taken back as a committed one, by `revoke`: under all that
 // came later, whoever did it. With `live` what was itself taken back doesn't stand in the way, so steps go back in turn, and come again.
-// Where the log isn't there a change that wasn't sent is taken back by `undo`.
+// A change that wasn't sent, as where no server is, is taken back by `undo`.
 import { makesChange } from "./session.js";
 
 const BURST = 1000; // milliseconds in which typing goes on as one step

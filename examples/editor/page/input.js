@@ -1,6 +1,7 @@
 // What the user does by keys, as intents of the editor. The browser changes nothing of the page by itself: each `beforeinput` is taken from
 // it, but for those of an input method, which writes into the document until its text is chosen.
 import { indented, kindsAt, outdented } from "./blocks.js";
+import { movedBy } from "./moving.js";
 import { besideCell, inTable, tableChanged } from "./tables.js";
 import { broken, parted } from "./text.js";
 import { caretPlace, shown } from "./tree.js";
@@ -58,6 +59,10 @@ export function listen(host, editor, shortcuts) {
     if (event.ctrlKey && (event.key === "Home" || event.key === "End")) {
       event.preventDefault();
       toEnd(event);
+    }
+    if (event.altKey && (event.key === "ArrowUp" || event.key === "ArrowDown")) {
+      event.preventDefault();
+      editor.act(({ root, selection }) => movedBy(root, selection, event.key === "ArrowUp" ? -1 : 1));
     }
     const { root, selection } = editor;
     if (event.key === "Tab" && (inTable(root, selection) || kindsAt(root, selection).list)) {

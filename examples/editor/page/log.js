@@ -18,6 +18,7 @@ export class Log {
   #lines = [];
   #sum = 0; // of all lines
   #expected = 0; // how many lines there are before the window begins
+  #isFetching = false; // the page, to begin alone
 
   /**
    * `heard` has a function for each event: opened, with the session; brought, where lines have come; presence and left, of other windows;
@@ -56,9 +57,9 @@ export class Log {
     return this.#about.log;
   }
 
-  /** Whether lines that are written come at once, or as soon as the server has answered. */
+  /** Whether others may come to see what is sent. Where nobody does, nothing is sent, and `undo` takes it back. */
   get isThere() {
-    return !this.#about.isShared || this.#link.isThere;
+    return this.#link.isThere;
   }
 
   /** Takes the session's own lines that haven't come yet. */
@@ -80,8 +81,10 @@ export class Log {
   }
 
   #take(lines) {
-    for (const line of lines) this.#sum = sumOf(this.#sum, line);
-    this.#lines.push(...lines);
+    for (const line of lines) {
+      this.#sum = sumOf(this.#sum, line);
+      this.#lines.push(line);
+    }
   }
 
   #bring(lines) {
@@ -97,7 +100,7 @@ export class Log {
       this.#bring(lines);
       return this.#heard.brought();
     }
-    this.#lines.push(...lines);
+    for (const line of lines) this.#lines.push(line);
     return this.#lines.length >= this.#expected ? this.#arrive() : null;
   }
 
@@ -111,16 +114,22 @@ export class Log {
   }
 
   // Without a server the page itself is the log's first line.
-  async #beginAlone() {
+  async #fetch() {
+    this.#isFetching = true;
     const answer = await fetch(this.#page).catch(() => null);
-    if (!answer?.ok) return this.#heard.stopped(`There is no page ${this.#page}`);
-    const page = await answer.text();
+    const page = answer?.ok ? await answer.text() : null;
+    this.#isFetching = false;
+    if (this.#about) return null; // a server came meanwhile
+    return page === null ? this.#heard.stopped(`There is no page ${this.#page}`) : this.#beginAlone(page);
+  }
+
+  #beginAlone(page) {
     const lines = [JSON.stringify({ do: "open", page, sites: sitesFor(page) })];
     const about = { log: crypto.randomUUID(), id: null, site: NEWCOMER, isShared: false };
     this.#keep?.begin(about);
     this.#begin(about, lines);
     this.#keep?.add(0, lines, this.#session.ahead);
-    return this.#heard.state("alone");
+    this.#heard.state("alone");
   }
 
   // The server has the same log, or none that anybody wrote to, or another one.
@@ -149,8 +158,12 @@ export class Log {
     this.#heard.state("shared");
   }
 
+  // A window that has nothing yet begins alone, unless the server was there a moment ago.
   #lose() {
-    if (!this.#session) return this.#beginAlone();
-    return this.#heard.state(this.#about.isShared ? "away" : "alone");
+    if (this.#session) return this.#heard.state(this.#about.isShared ? "away" : "alone");
+    const wasThere = this.#about !== null;
+    this.#about = null;
+    this.#lines = [];
+    return wasThere || this.#isFetching ? null : this.#fetch();
   }
 }

@@ -3,6 +3,7 @@ import { Carets } from "./carets.js";
 import { listenToClipboard } from "./clipboard.js";
 import { listenToInputMethods } from "./composing.js";
 import { Editor } from "./editor.js";
+import { listenToGrip } from "./grip.js";
 import { listen } from "./input.js";
 import { Keep } from "./keep.js";
 import { Log } from "./log.js";
@@ -87,6 +88,7 @@ listen(host, editor, tools.shortcuts);
 listenToInputMethods(host, editor);
 listenToMouse(host, editor);
 listenToClipboard(host, editor);
+listenToGrip(find("main"), host, editor);
 log.open();
 
 // The files that this page is made of are kept by the browser, so that it opens where no server is.

@@ -31,13 +31,19 @@ export class Places {
     return dom && this.#host.contains(dom) ? this.offset(dom, k) : null;
   }
 
-  /** The leaf that a DOM node is, or is a part of. */
-  leafAt(dom) {
+  /** The node that a DOM node shows, or is a part of. */
+  nodeAt(dom) {
     for (let up = dom; up && up !== this.#host; up = up.parentNode) {
       const node = this.#pairs.nodeOf(up);
-      if (node && node.parent) return isLeaf(node) ? node : null;
+      if (node) return node;
     }
     return null;
+  }
+
+  /** The leaf that a DOM node is, or is a part of. */
+  leafAt(dom) {
+    const node = this.nodeAt(dom);
+    return node && isLeaf(node) ? node : null;
   }
 
   #place(dom, k) {
