@@ -1,5 +1,6 @@
 // A page that is edited: the log of its lines, a core that answers each of them first, and a site of it for each window.
 import { randomUUID } from "node:crypto";
+import { COMMANDS } from "../../clients/web/table.js";
 import { sitesFor } from "./page/sites.js";
 import { sumOf } from "./page/sum.js";
 import { Rejected } from "./rejected.mjs";
@@ -8,9 +9,9 @@ const AWAY = 60_000; // milliseconds for which nobody else gets the site of a wi
 const MOST = 48 << 20; // bytes of a log; a program reads at most 64 MiB
 const PIECE = 500; // lines of a log that are sent at once
 
-// What a window may write. It opens no page.
-const WRITTEN = new Set(["select", "type", "erase", "text", "remove", "split", "mark", "unmark", "wrap", "convert", "attr", "indent",
-  "outdent", "insert", "apply", "batch", "revoke", "row_in", "row_out", "col_in", "col_out", "undo", "redo", "send", "serve", "take"]);
+// What a window may write: what changes something, but for the page that is opened.
+const CHANGING = new Set(["number", "selection", "served", "taken"]); // replies
+const isWritten = (what) => Object.hasOwn(COMMANDS, what) && what !== "open" && CHANGING.has(COMMANDS[what].gives);
 
 const accepted = (reply) => reply.startsWith("ok");
 
@@ -23,7 +24,7 @@ function checked(line, isSite) {
     throw new Rejected(400, "a line is JSON");
   }
   if (JSON.stringify(command) !== line || !line.isWellFormed()) throw new Rejected(400, "a line is spelled as JSON.stringify does");
-  if (!WRITTEN.has(command?.do) || !isSite(command.site)) throw new Rejected(400, "a window writes no such line");
+  if (!isWritten(command?.do) || !isSite(command.site)) throw new Rejected(400, "a window writes no such line");
   return line;
 }
 

@@ -87,19 +87,18 @@ export class Log {
     }
   }
 
+  // Lines that come next. Whether there is something to take.
   #bring(lines) {
     const first = this.#lines.length;
     this.#take(lines);
-    this.#session.hear(lines);
+    const isMore = this.#session.hear(lines);
     this.#keep?.add(first, lines, this.#session.ahead);
+    return isMore;
   }
 
   #hear(lines) {
     if (this.#session && !this.#link.isThere) return null; // those of another log
-    if (this.#session) {
-      this.#bring(lines);
-      return this.#heard.brought();
-    }
+    if (this.#session) return this.#bring(lines) && this.#heard.brought();
     for (const line of lines) this.#lines.push(line);
     return this.#lines.length >= this.#expected ? this.#arrive() : null;
   }

@@ -9,6 +9,7 @@ import { Keep } from "./keep.js";
 import { Log } from "./log.js";
 import { listenToMouse } from "./mouse.js";
 import { nameOf } from "./people.js";
+import { Astray } from "./session.js";
 import { toolbar } from "./toolbar.js";
 import { World, compile } from "./vemodel/world.js";
 
@@ -83,6 +84,9 @@ const log = new Log(page, () => new World(module), await Keep.open(page), {
   },
   stopped,
 });
+
+// What can't be mended by the user: the core ended, or the log has lines that aren't this window's.
+addEventListener("error", ({ error }) => (error?.name === "Ended" || error instanceof Astray) && stopped(error.message));
 
 listen(host, editor, tools.shortcuts);
 listenToInputMethods(host, editor);

@@ -3,13 +3,17 @@
 // or of the world, unless both serve or take. So `serve` alone, whose order decides, is done when the log brings it; and `take` takes what the
 // log has brought, which stands in its queue before all that is still to come.
 import { holes } from "./holes.js";
+import { COMMANDS } from "./vemodel/table.js";
 
-// The lines that make a change of their own, which is to be committed.
-const CHANGES = new Set(["type", "erase", "text", "remove", "split", "mark", "unmark", "wrap", "convert", "attr", "indent", "outdent",
-  "insert", "apply", "batch", "revoke", "row_in", "row_out", "col_in", "col_out", "redo"]);
+// The lines that make a change of their own, which is to be committed: those that are answered by the list's length.
+const OTHERS = new Set(["open", "near", "send", "undo"]);
+const CHANGES = new Set(Object.keys(COMMANDS).filter((name) => COMMANDS[name].gives === "number" && !OTHERS.has(name)));
 
 export const makesChange = (line) => CHANGES.has(line.do);
 export const accepted = (reply) => reply.startsWith("ok");
+
+/** The log has a line of this site that isn't this window's: the site was given to another. */
+export class Astray extends Error {}
 
 export class Session {
   site;
@@ -17,8 +21,7 @@ export class Session {
   #world;
   #log;
   #ahead = []; // the site's own lines that the log hasn't brought yet
-  #heard = 0; // how many lines the log has brought
-  #own = 0; // how many of them are the site's
+  #own = 0; // how many of the site's lines the log has brought
   #pending = []; // for each change that isn't committed yet: the edit that it is of, or nothing where it isn't known
   #sent = 0; // how many of them are on their way
   #whose = []; // the sites whose changes wait to be taken
@@ -45,20 +48,14 @@ export class Session {
     return { from: this.#own, lines: this.#ahead };
   }
 
-  /** How many lines the log has brought. */
-  get length() {
-    return this.#heard;
-  }
-
   /** Lines that the log brings next. Whether there is something to take. */
   hear(lines) {
     for (const line of lines) {
       const command = JSON.parse(line);
       const isOwn = command.site === this.site;
-      this.#heard++;
       if (isOwn) this.#own++;
       if (!isOwn || this.#ahead.length === 0) this.#follow(line, command);
-      else if (this.#ahead.shift() !== line) throw new Error("the log has another line than this window wrote");
+      else if (this.#ahead.shift() !== line) throw new Astray("This window's place was given to another one");
       else if (command.do === "serve") this.#follow(line, command);
     }
     return this.#whose.length > 0;
@@ -107,9 +104,10 @@ export class Session {
   turn(edit) {
     const replies = this.#allOrNone(edit);
     this.#send();
-    const told = this.#take();
-    if (told.numbered.length || told.dropped.length) this.#send();
-    return { replies, ...told, ...this.#changes(), caret: this.#caret() };
+    const taken = this.#take();
+    if (taken.length) this.#send();
+    const [numbered, dropped] = ["numbered", "dropped"].map((what) => taken.flatMap((told) => told[what]));
+    return { replies, numbered, dropped, ...this.#changes(), caret: this.#caret() };
   }
 
   #allOrNone(edit) {
@@ -142,13 +140,9 @@ export class Session {
   }
 
   #take() {
-    const numbered = [], dropped = [];
-    while (this.#whose.length) {
-      const told = this.#do({ do: "take" });
-      numbered.push(...told.numbered);
-      dropped.push(...told.dropped);
-    }
-    return { numbered, dropped };
+    const taken = [];
+    while (this.#whose.length) taken.push(this.#do({ do: "take" }));
+    return taken;
   }
 
   // The patches that lead from the list that the window shows to the site's, and the items that came, each run of them with its place.
