@@ -108,6 +108,11 @@ async function checkCompany() {
     writeFileSync(picture, await browser.together([ada, ben]));
   }
   for (const name of ["selections", "dropped", "away", "race"]) await check(`company: ${name}`, () => company[name](ada, ben));
+  await check("company: the log makes the page that both windows hold", async () => {
+    const sites = await Promise.all([ada, ben].map((person) => person.value("vemodel.editor.session.site")));
+    const page = await meet(ada, ben);
+    assert.deepEqual(await http.replayed(server.of(0), program, sites), [page, page]);
+  });
   await check("company: no script of the page ran", async () => {
     for (const person of [ada, ben]) assert.equal(await person.value("typeof hacked"), "undefined");
   });

@@ -21,6 +21,12 @@ export async function check(browser, url) {
   const opens = (await workOf(ada)) - blank;
   const drawn = await ada.value("document.querySelectorAll('#page p').length");
   assert.ok(drawn < 200, `${drawn} paragraphs are drawn at first`);
+  // a key is shown before the browser draws again
+  await clickAfter(ada, "Here");
+  await ada.value(`addEventListener("beforeinput", () => (globalThis.shown = document.querySelector("#page p").textContent), { once: true })`);
+  await ada.type("x");
+  assert.equal(await ada.value("shown"), "Herex");
+  await keys(ada, "Backspace");
   // to the end, where the last ones are drawn; typing there, and back
   await keys(ada, "ctrl+End");
   await ada.type("!");

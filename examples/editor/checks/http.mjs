@@ -1,6 +1,7 @@
 // What the server answers to those who ask otherwise than its own page.
 import assert from "node:assert/strict";
 import http from "node:http";
+import { Core } from "../../../clients/node/index.js";
 
 const own = (url) => new URL(url).host;
 const evil = { origin: "http://evil.example" };
@@ -48,12 +49,28 @@ export const cases = requests.map(([name, method, path, headers, body, wanted]) 
   act: async (url) => assert.equal(await status(url, method, path, headers, body), wanted),
 }));
 
-// A window as the server sees it: what it was told first, and its connection.
+// A window as the server sees it: what it was told first, all lines of the log, and its connection.
 async function windowOf(url) {
-  const answer = await fetch(new URL("/events", url));
-  const reader = answer.body.getReader();
-  const { value } = await reader.read();
-  return { hello: JSON.parse(new TextDecoder().decode(value).split("data: ")[1].split("\n")[0]), close: () => reader.cancel() };
+  const answer = await fetch(new URL(`/events${new URL(url).search}`, url));
+  const reader = answer.body.pipeThrough(new TextDecoderStream()).getReader();
+  let text = "", hello, lines = [];
+  while (!hello || lines.length < hello.length) {
+    text += (await reader.read()).value;
+    const told = text.split("\n\n").slice(0, -1).map((event) => JSON.parse(event.split("data: ")[1]));
+    [hello] = told;
+    lines = told.flatMap((one) => one.lines ?? []);
+  }
+  return { hello, lines, close: () => reader.cancel() };
+}
+
+/** The page that a log makes at each of the sites, by a core that is asked for nothing else. */
+export async function replayed(url, program, sites) {
+  const { lines, close } = await windowOf(url);
+  const core = new Core({ program });
+  for (const line of lines) assert.match(await core.line(line), /^ok/, line);
+  const pages = await Promise.all(sites.map((site) => core.html({ site })));
+  await Promise.all([core.close(), close()]);
+  return pages;
 }
 
 /** Windows that open at once share one log, and each has a site of its own. */
