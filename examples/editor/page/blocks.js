@@ -2,7 +2,10 @@
 import { again, batch, before, ends, isList, listItem, replaced } from "./edits.js";
 import { around, branchesIn, commonOf, endOf, innerEnd, innerStart, innermost, isContent, shown, startOf } from "./tree.js";
 
-// The branches of the selection become headings, or paragraphs.
+/**
+ * The branches of the selection become headings, or paragraphs.
+ * @type {(root: TreeNode, selection: Selected, kind: string) => Answer}
+ */
 export function converted(root, selection, kind) {
   const [lo, hi] = ends(selection);
   const branches = touched(root, lo, hi).filter((branch) => branch.kind !== kind);
@@ -13,7 +16,10 @@ export function converted(root, selection, kind) {
 
 const touched = (root, lo, hi) => (lo === hi ? [innermost(root, lo)].filter(isContent) : branchesIn(root, lo, hi));
 
-// The selection's siblings become a list of this kind, or a list becomes one of the other kind, or paragraphs.
+/**
+ * The selection's siblings become a list of this kind, or a list becomes one of the other kind, or paragraphs.
+ * @type {(root: TreeNode, selection: Selected, kind: string) => Answer}
+ */
 export function listed(root, selection, kind) {
   const [lo, hi] = ends(selection);
   const common = commonOf(innermost(root, lo), innermost(root, hi));
@@ -44,7 +50,10 @@ function lifted(root, list, lo, hi) {
   return { lines: [replaced(root, edits)], what: "the end of a list" };
 }
 
-// Tab, and Tab with Shift, in a list.
+/**
+ * Tab, and Tab with Shift, in a list.
+ * @type {(root: TreeNode, selection: Selected) => Answer}
+ */
 export function indented(root, selection) {
   const item = listItem(innermost(root, ends(selection)[0]));
   if (!item) return null;
@@ -52,6 +61,7 @@ export function indented(root, selection) {
   return { lines: [{ do: "indent", at: startOf(item) }], what: "an item that goes deeper" };
 }
 
+/** @type {(root: TreeNode, selection: Selected) => Answer} */
 export function outdented(root, selection) {
   const [lo, hi] = ends(selection);
   const item = listItem(innermost(root, lo));
@@ -61,7 +71,10 @@ export function outdented(root, selection) {
   return { lines: [{ do: "outdent", at: startOf(item) }], what: "an item that comes out" };
 }
 
-// The kind of the selection's first branch and of the innermost list round it, for the toolbar.
+/**
+ * The kind of the selection's first branch and of the innermost list round it, for the toolbar.
+ * @type {(root: TreeNode, selection: Selected) => { branch: string | null, list: string | null }}
+ */
 export function kindsAt(root, selection) {
   const node = innermost(root, ends(selection)[0]);
   return { branch: isContent(node) ? node.kind : null, list: around(node, isList)?.kind ?? null };

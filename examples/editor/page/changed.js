@@ -93,6 +93,8 @@ function renewedIn(span, range, turn) {
 /**
  * What a turn's patches make of the tree: the siblings that they touch, the nodes that come in the place of these, and the one change.
  * Nothing where no patch came.
+ * @param {TreeNode} root
+ * @param {Pick<Turn, "patches" | "came">} turn
  */
 export function renewed(root, turn) {
   if (turn.patches.length === 0) return null;
@@ -100,7 +102,10 @@ export function renewed(root, turn) {
   return renewedIn(cover(root, range.at, range.at + range.gone), range, turn);
 }
 
-/** Where an offset stands after patches. What stood in the place of one stands at its end. */
+/**
+ * Where an offset stands after patches. What stood in the place of one stands at its end.
+ * @type {(at: number, patches: Patch[]) => number}
+ */
 export function moved(at, patches) {
   return patches.reduce((place, [from, removed, inserted]) => {
     if (place < from) return place;

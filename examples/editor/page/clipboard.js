@@ -1,11 +1,11 @@
 // Copy, cut, paste and drag. What is taken along is nodes of the page: as items for this page itself, where all of it comes back as it was,
 // and as HTML and text for others.
 import { cut } from "./cut.js";
-import { ends, replaced, select } from "./edits.js";
+import { ends, named, replaced, select } from "./edits.js";
 import { nodesOf, nodesOfText } from "./foreign.js";
 import { sizeOf } from "./items.js";
 import { placed, placement } from "./placing.js";
-import { commonOf, endOf, innermost, isContent, isLeaf, isText, itemsOf, mayHold, parse, shown, startOf } from "./tree.js";
+import { commonOf, innermost, isContent, isLeaf, isText, itemsOf, mayHold, parse, shown, startOf } from "./tree.js";
 import { htmlOf, textOf } from "./written.js";
 
 const OWN = "application/x-vemodel-items";
@@ -24,7 +24,10 @@ function within(nodes, start, from, to) {
   return out;
 }
 
-/** What the selection covers, as nodes that may stand by themselves. */
+/**
+ * What the selection covers, as nodes that may stand by themselves.
+ * @type {(root: TreeNode, selection: Selected) => TreeNode[]}
+ */
 export function taken(root, selection) {
   const [lo, hi] = ends(selection);
   let common = commonOf(innermost(root, lo), innermost(root, hi));
@@ -48,8 +51,6 @@ function brought(data, page) {
   return html ? nodesOf(html) : nodesOfText(data.getData("text/plain"));
 }
 
-const named = (edit, what) => (edit?.lines ? { ...edit, what } : edit);
-
 const grownBy = (edits) => edits.reduce((sum, { gone, came }) => sum + came.reduce((size, item) => size + sizeOf(item), 0) - gone, 0);
 
 // What was dragged goes from where it was, and comes to where it is dropped.
@@ -64,7 +65,11 @@ function moved(root, from, at) {
   return { lines: [replaced(root, [...put.edits, ...gone]), select(caret)] };
 }
 
-/** Has the page's copy, cut, paste and drag go by nodes. */
+/**
+ * Has the page's copy, cut, paste and drag go by nodes.
+ * @param {HTMLElement} host
+ * @param {import("./editor.js").Editor} editor
+ */
 export function listenToClipboard(host, editor) {
   const copy = (data) => written(data, taken(editor.root, editor.selection), editor.page);
   const paste = (data) => {

@@ -28,6 +28,10 @@ function difference(before, after, caret) {
   return { from: head, to: old.length - tail, text: now.slice(head, now.length - tail).join("") };
 }
 
+/**
+ * @param {HTMLElement} host
+ * @param {import("./editor.js").Editor} editor
+ */
 export function listenToInputMethods(host, editor) {
   let branch = null; // the branch in which it writes, where it is one
 

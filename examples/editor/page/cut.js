@@ -8,6 +8,7 @@ const gap = (from, to, came = []) => ({ at: from, gone: to - from, came });
 /**
  * Takes a range out. Where it begins in one branch and ends in another what is left of both is one branch; of what stood round the second
  * one, elements that nothing is left in go too. Cells stay, and what stands in them is emptied.
+ * @type {(root: TreeNode, from: number, to: number) => Replacement[]}
  */
 export function cut(root, from, to) {
   const first = innermost(root, from), last = innermost(root, to);
@@ -55,7 +56,10 @@ function itemsWithin(runs) {
     (isText(kid) && to - from < kid.size ? { ...kid, text: [...kid.text].slice(kid.size - (to - from)).join("") } : kid)));
 }
 
-/** At the edge of a branch: the one beside it that way is joined with it, or the leaf there goes. */
+/**
+ * At the edge of a branch: the one beside it that way is joined with it, or the leaf there goes.
+ * @type {(root: TreeNode, branch: TreeNode, dir: string) => Answer}
+ */
 export function joined(root, branch, dir) {
   const beside = neighbour(branch, dir);
   if (!beside) return null;

@@ -137,7 +137,10 @@ function lone(kids) {
   });
 }
 
-/** The nodes of HTML: runs, breaks and pictures alone, or blocks. Nothing is left of what shows nothing. */
+/**
+ * The nodes of HTML: runs, breaks and pictures alone, or blocks. Nothing is left of what shows nothing.
+ * @type {(html: string) => TreeNode[] | null}
+ */
 export function nodesOf(html) {
   const kids = pieces(parsed(html), { marks: [], heading: false, pre: false, depth: 0 });
   const blocks = kids.some(isBlock) ? lone(flow(kids)) : [];
@@ -146,7 +149,10 @@ export function nodesOf(html) {
   return parse(items(blocks.length ? blocks : trimmed(kids, false)));
 }
 
-/** The nodes of plain text: a line is text, and more are paragraphs. */
+/**
+ * The nodes of plain text: a line is text, and more are paragraphs.
+ * @type {(text: string) => TreeNode[] | null}
+ */
 export function nodesOfText(text) {
   const lines = wellFormed(text.replace(/\r\n?/g, "\n")).split("\n");
   if (lines.length === 1) return parse(lines.filter(Boolean));

@@ -1,6 +1,11 @@
 // The handle beside the block under the mouse: it is dragged with its block, and a line shows where that would come to stand.
 import { blockAt, fitsBeside, movedBeside } from "./moving.js";
 
+/**
+ * @param {HTMLElement} main
+ * @param {HTMLElement} host
+ * @param {import("./editor.js").Editor} editor
+ */
 export function listenToGrip(main, host, editor) {
   const [grip, line] = ["#grip", "#line"].map((selector) => main.querySelector(selector));
   let block = null; // beside which the handle is

@@ -1,6 +1,9 @@
 // Where in a list the items stand that came by patches.
 
-/** Where each run of them begins and ends, in the list that all of the patches left. */
+/**
+ * Where each run of them begins and ends, in the list that all of the patches left.
+ * @type {(patches: Patch[]) => number[][]}
+ */
 export function holes(patches) {
   let runs = [];
   for (const [at, removed, inserted] of patches) {

@@ -8,6 +8,11 @@ import { caretPlace, shown } from "./tree.js";
 
 const endOfShown = (root) => shown(root).reduce((size, kid) => size + kid.size, 0);
 
+/**
+ * @param {HTMLElement} host
+ * @param {import("./editor.js").Editor} editor
+ * @param {Record<string, () => void>} shortcuts
+ */
 export function listen(host, editor, shortcuts) {
   const inputs = {
     insertText: ({ data }) => editor.type(data),

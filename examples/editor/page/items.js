@@ -3,6 +3,7 @@ import { scalars, units } from "./scalars.js";
 
 const isRun = (item) => typeof item === "string" || Array.isArray(item);
 export const textOf = (item) => (Array.isArray(item) ? item[0] : item);
+/** @type {(item: Item) => number} */
 export const sizeOf = (item) => (isRun(item) ? scalars(textOf(item)) : 1);
 
 const dressed = (text, item) => (Array.isArray(item) ? [text, item[1]] : text);
@@ -45,7 +46,10 @@ export function sliced(items, from, to) {
   return reader.take(to - from);
 }
 
-/** Appends items, so that neighbours whose marks are the same are one run. */
+/**
+ * Appends items, so that neighbours whose marks are the same are one run.
+ * @type {(out: Item[], items: Item[]) => Item[]}
+ */
 export function append(out, items) {
   for (const item of items) {
     const last = out.at(-1);

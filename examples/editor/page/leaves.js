@@ -6,7 +6,10 @@ import { isPicture, isSafe } from "./addresses.js";
 const SHOWN = new Set(["alt", "colspan", "dir", "height", "lang", "reversed", "rowspan", "start", "title", "width"]);
 const LONGEST = 120; // characters of a label
 
-/** An element with those of a node's attributes that are safe. */
+/**
+ * An element with those of a node's attributes that are safe.
+ * @type {(tag: string, attrs?: Attrs) => HTMLElement}
+ */
 export function element(tag, attrs = []) {
   const dom = document.createElement(tag);
   for (const [name, value] of attrs) {
@@ -59,7 +62,10 @@ function label(kind, content) {
   return words(content.textContent) || `‹${content.firstElementChild?.localName ?? "kept as it is"}›`;
 }
 
-/** The box of a leaf that can be moved, copied and erased as a whole, and not edited. */
+/**
+ * The box of a leaf that can be moved, copied and erased as a whole, and not edited.
+ * @type {(node: TreeNode) => HTMLElement}
+ */
 export function box({ kind, open }) {
   const dom = document.createElement(kind.endsWith("block") ? "div" : "span");
   dom.className = `leaf ${kind}`;

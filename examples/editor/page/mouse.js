@@ -2,6 +2,10 @@
 // by three clicks what stands in one paragraph and no more.
 import { endOf, innerEnd, innerStart, innermost, isContent, startOf } from "./tree.js";
 
+/**
+ * @param {HTMLElement} host
+ * @param {import("./editor.js").Editor} editor
+ */
 export function listenToMouse(host, editor) {
   host.addEventListener("mousedown", (event) => {
     if (event.button !== 0) return;

@@ -5,13 +5,22 @@ import { around, endOf, innermost, isLeaf, itemsOf, shown, startOf } from "./tre
 const HOLDERS = new Set(["root", "section", "div", "blockquote"]);
 const isMovable = (node) => node.kind !== "section" && node.parent !== null && (isItem(node) || HOLDERS.has(node.parent.kind));
 
-/** The block or the item that a node is in. */
+/**
+ * The block or the item that a node is in.
+ * @type {(node: TreeNode) => TreeNode | null}
+ */
 export const blockAt = (node) => around(node, isMovable);
 
-/** Whether one may be put beside another. */
+/**
+ * Whether one may be put beside another.
+ * @type {(node: TreeNode, other: TreeNode) => boolean}
+ */
 export const fitsBeside = (node, other) => isItem(node) === isItem(other) && around(other, (up) => up === node) === null;
 
-/** Puts a block before another one, or behind it, with the caret in it as before. */
+/**
+ * Puts a block before another one, or behind it, with the caret in it as before.
+ * @type {(root: TreeNode, node: TreeNode, other: TreeNode, isBehind: boolean, selection: Selected) => Answer}
+ */
 export function movedBeside(root, node, other, isBehind, selection) {
   const from = startOf(node), at = isBehind ? endOf(other) : startOf(other);
   if (at >= from && at <= from + node.size) return null;
@@ -23,7 +32,10 @@ export function movedBeside(root, node, other, isBehind, selection) {
   return { lines, what: "a block that was moved" };
 }
 
-/** The block of the selection, one up or down. */
+/**
+ * The block of the selection, one up or down.
+ * @type {(root: TreeNode, selection: Selected, step: number) => Answer}
+ */
 export function movedBy(root, selection, step) {
   const [lo, hi] = ends(selection);
   const here = innermost(root, lo);

@@ -10,17 +10,25 @@ const STYLES = [
   ["sup", /vertical-align:\s*super/i],
 ];
 
-/** The tags of what a style says. A link is underlined as it is, and a heading is bold. */
+/**
+ * The tags of what a style says. A link is underlined as it is, and a heading is bold.
+ * @type {(dom: Node, inside: { heading: boolean, link: boolean }) => string[]}
+ */
 export function styledAs(dom, { heading, link }) {
   const style = attribute(dom, "style");
   if (!style) return [];
   return STYLES.filter(([tag, says]) => says.test(style) && !(tag === "b" && heading) && !(tag === "u" && link)).map(([tag]) => tag);
 }
 
-/** A `b` round a whole copy that says of itself that it isn't bold. */
+/**
+ * A `b` round a whole copy that says of itself that it isn't bold.
+ * @type {(dom: Node) => boolean}
+ */
 export const isPlain = (dom) => /^(b|strong)$/.test(tagOf(dom)) && /font-weight:\s*(normal|400)/i.test(attribute(dom, "style"));
 
+/** @type {(dom: Node) => boolean} */
 export const isMarker = (dom) => /mso-list:\s*ignore/i.test(attribute(dom, "style"));
+/** @type {(dom: Node) => boolean} */
 export const isBlank = (dom) => tagOf(dom) === "o:p" && wordsOf(dom).trim() === "";
 
 function markerIn(dom) {
@@ -32,7 +40,10 @@ function markerIn(dom) {
   return null;
 }
 
-/** The level and the kind of the list to which one of Word's paragraphs belongs. */
+/**
+ * The level and the kind of the list to which one of Word's paragraphs belongs.
+ * @type {(dom: Node) => { level: number, kind: string } | null}
+ */
 export function listOf(dom) {
   const [, level] = /mso-list:[^;]*\blevel(\d+)/i.exec(attribute(dom, "style")) ?? [];
   if (!level) return null;

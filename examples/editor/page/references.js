@@ -8,9 +8,14 @@ function* referencesIn(nodes) {
   }
 }
 
+/** @type {(nodes: TreeNode[]) => boolean} */
 export const hasReference = (nodes) => !referencesIn(nodes).next().done;
 
-/** Each reference of the page with its label. */
+/**
+ * Each reference of the page with its label.
+ * @param {TreeNode} root
+ * @returns {Generator<[TreeNode, string]>}
+ */
 export function* labels(root) {
   const groups = new Map();
   for (const node of referencesIn(root.kids)) {

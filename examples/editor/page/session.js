@@ -9,7 +9,9 @@ import { COMMANDS } from "./vemodel/table.js";
 const OTHERS = new Set(["open", "near", "send", "undo"]);
 const CHANGES = new Set(Object.keys(COMMANDS).filter((name) => COMMANDS[name].gives === "number" && !OTHERS.has(name)));
 
+/** @type {(line: Line) => boolean} */
 export const makesChange = (line) => CHANGES.has(line.do);
+/** @type {(reply: string) => boolean} */
 export const accepted = (reply) => reply.startsWith("ok");
 
 /** The log has a line of this site that isn't this window's: the site was given to another. */

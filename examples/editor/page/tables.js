@@ -1,9 +1,10 @@
 // Tables: a new one, rows and columns, and the way from cell to cell. The program's `grid` says in which row and column a cell stands.
-import { ends, isCell } from "./edits.js";
+import { ends, isCell, named } from "./edits.js";
 import { placed } from "./placing.js";
 import { around, endOf, innermost, isContent, parse, shown, startOf } from "./tree.js";
 
 const tableAt = (root, at) => around(innermost(root, at), (node) => node.kind === "table");
+/** @type {(root: TreeNode, selection: Selected) => TreeNode | null} */
 export const cellAt = (root, selection) => around(innermost(root, ends(selection)[0]), (node) => ["td", "th"].includes(node.kind));
 
 const cell = [{ open: "td" }, { open: "p" }, { close: "p" }, { close: "td" }];
@@ -11,10 +12,12 @@ const row = [{ open: "tr" }, ...cell, ...cell, ...cell, { close: "tr" }];
 const EMPTY = [{ open: "table" }, { open: "tbody" }, ...row, ...row, { close: "tbody" }, { close: "table" }];
 const FIRST_CELL = 5; // offsets from the place of the table to its first cell's text
 
-/** A table of two rows and three columns, with the caret in its first cell. */
+/**
+ * A table of two rows and three columns, with the caret in its first cell.
+ * @type {(root: TreeNode, selection: Selected) => Answer}
+ */
 export function tabled(root, selection) {
-  const edit = placed(root, selection, parse(EMPTY), FIRST_CELL);
-  return typeof edit === "string" ? edit : { ...edit, what: "a table" };
+  return named(placed(root, selection, parse(EMPTY), FIRST_CELL), "a table");
 }
 
 // What each word of the menu asks of the program, by the cell's rectangle.
@@ -27,7 +30,10 @@ const CHANGES = {
   column_gone: ({ column }) => ({ do: "col_out", column }),
 };
 
-/** What the menu asks for; the editor's `grid` gives the cells of the table at a place. */
+/**
+ * What the menu asks for; the editor's `grid` gives the cells of the table at a place.
+ * @type {(root: TreeNode, selection: Selected, word: string, editor: import("./editor.js").Editor) => Answer}
+ */
 export function tableChanged(root, selection, word, editor) {
   const table = tableAt(root, selection[0]);
   if (!table) return "The caret isn't in a table";
@@ -46,7 +52,10 @@ function cellsOf(node) {
   return shown(node).flatMap((kid) => (kid.kind === "td" || kid.kind === "th" ? [kid] : ["thead", "tbody", "tfoot", "tr"].includes(kid.kind) ? cellsOf(kid) : []));
 }
 
-/** Where the caret goes by Tab: into the next cell, or the one before; nowhere at the table's end. */
+/**
+ * Where the caret goes by Tab: into the next cell, or the one before; nowhere at the table's end.
+ * @type {(root: TreeNode, selection: Selected, back: boolean) => number | null}
+ */
 export function besideCell(root, selection, back) {
   const table = tableAt(root, selection[0]);
   const cells = table ? cellsOf(table) : [];
@@ -54,4 +63,5 @@ export function besideCell(root, selection, back) {
   return next ? firstText(next) : null;
 }
 
+/** @type {(root: TreeNode, selection: Selected) => boolean} */
 export const inTable = (root, selection) => around(innermost(root, ends(selection)[0]), isCell) !== null;

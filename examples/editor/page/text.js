@@ -5,7 +5,10 @@ import { batch, dressed, ends, isItem, isList, listItem, replaced, select } from
 import { innerEnd, innerStart, innermost, isContent, shown, startOf } from "./tree.js";
 import { scalars } from "./scalars.js";
 
-/** Text in the place of the selection; `marks` says which tags it shall have, and which not. */
+/**
+ * Text in the place of the selection; `marks` says which tags it shall have, and which not.
+ * @type {(root: TreeNode, selection: Selected, text: string, marks?: Map<string, boolean>) => Answer}
+ */
 export function typed(root, selection, text, marks = new Map()) {
   const [lo, hi] = ends(selection);
   const branch = innermost(root, lo);
@@ -19,6 +22,7 @@ export function typed(root, selection, text, marks = new Map()) {
 /**
  * A character or a word that way, or the selection. At the beginning of an item the item leaves its list, and at the edge of any other
  * branch the one beside it is joined.
+ * @type {(root: TreeNode, selection: Selected, dir: string, by: string) => Answer}
  */
 export function erased(root, selection, dir, by) {
   const [lo, hi] = ends(selection);
@@ -31,7 +35,10 @@ export function erased(root, selection, dir, by) {
   return joined(root, branch, dir);
 }
 
-/** Enter: a new paragraph, or a new item of a list; in an empty item the end of the list. */
+/**
+ * Enter: a new paragraph, or a new item of a list; in an empty item the end of the list.
+ * @type {(root: TreeNode, selection: Selected) => Answer}
+ */
 export function parted(root, selection) {
   const [lo, hi] = ends(selection);
   const branch = innermost(root, lo), what = "a new paragraph";
@@ -47,7 +54,10 @@ export function parted(root, selection) {
   return { lines: [batch([...cutting, { do: "split", at: lo, depth }, ...plain]), select(next)], what };
 }
 
-/** Shift and Enter. */
+/**
+ * Shift and Enter.
+ * @type {(root: TreeNode, selection: Selected) => Answer}
+ */
 export function broken(root, selection) {
   const [lo, hi] = ends(selection);
   const leaf = [{ open: "br" }, { close: "br" }];

@@ -6,6 +6,11 @@ import { inTable, tableChanged, tabled } from "./tables.js";
 
 const TAGS = { bold: ["b", "strong"], italic: ["i", "em"], underline: ["u", "ins"] };
 
+/**
+ * @param {HTMLElement} bar
+ * @param {HTMLElement} host
+ * @param {import("./editor.js").Editor} editor
+ */
 export function toolbar(bar, host, editor) {
   const button = (name) => bar.querySelector(`[data-do=${name}]`);
   const [kind, table] = bar.querySelectorAll("select");

@@ -11,6 +11,7 @@ function leaf(node) {
   return node.kind === "ref" ? "<sup>[*]</sup>" : node.open.raw ?? "";
 }
 
+/** @type {(nodes: TreeNode[]) => string} */
 export function htmlOf(nodes) {
   let html = "", open = [];
   const close = (kept) => {
@@ -32,6 +33,7 @@ export function htmlOf(nodes) {
   return html;
 }
 
+/** @type {(nodes: TreeNode[]) => string} */
 export function textOf(nodes) {
   return nodes.map((node) => {
     if (isText(node)) return node.text;
