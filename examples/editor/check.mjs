@@ -6,7 +6,9 @@ import { mkdtempSync, readFileSync, rmSync, writeFileSync } from "node:fs";
 import { tmpdir } from "node:os";
 import { join } from "node:path";
 import { fileURLToPath } from "node:url";
+import { World, compile } from "../../clients/node/index.js";
 import { Browser, serve, serveFiles } from "./browser.mjs";
+import * as ahead from "./checks/ahead.mjs";
 import * as big from "./checks/big.mjs";
 import * as company from "./checks/company.mjs";
 import * as http from "./checks/http.mjs";
@@ -161,6 +163,13 @@ async function checkWhole() {
   await server.close();
 }
 
+async function checkAhead() {
+  const to = mkdtempSync(join(folder, "files-"));
+  execFileSync(process.execPath, [here("files.mjs"), to]);
+  const module = await compile(readFileSync(join(to, "vemodel/vemodel.wasm")));
+  await check("sessions ahead of the log", () => ahead.check(to, World, module));
+}
+
 async function checkJoining() {
   const files = await withoutServer([joining.page]);
   const again = (port) => serve(program, "--port", String(port), ...written([joining.page]));
@@ -173,6 +182,7 @@ async function checkJoining() {
 const isWhole = await knowsWhole();
 await Promise.all([checkSingle("with a server", browser, withServer), checkSingle("without one", other, withoutServer)]);
 await other.close();
+await checkAhead();
 await checkJoining();
 await checkCompany();
 await checkServer();
