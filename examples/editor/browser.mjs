@@ -62,7 +62,8 @@ export async function serveFiles(folder) {
 }
 
 const ALT = 1, CTRL = 2, SHIFT = 8;
-const KEYS = { Enter: 13, Backspace: 8, Tab: 9, Escape: 27, End: 35, Home: 36, ArrowLeft: 37, ArrowUp: 38, ArrowRight: 39, ArrowDown: 40, Delete: 46 };
+const KEYS = { Enter: 13, Backspace: 8, Tab: 9, Escape: 27, End: 35, Home: 36, ArrowLeft: 37, ArrowUp: 38, ArrowRight: 39, ArrowDown: 40,
+  Delete: 46 };
 
 export class Browser {
   #process;
@@ -80,7 +81,8 @@ export class Browser {
   async #launch(path) {
     const words = ["--headless=new", "--disable-gpu", "--remote-debugging-port=0", `--user-data-dir=${this.#folder}`, "--no-first-run",
       "--disable-extensions", "--disable-background-networking", "--disable-dev-shm-usage", "--window-size=1000,820",
-      "--disable-renderer-backgrounding", "--disable-backgrounding-occluded-windows", ...(process.getuid() ? [] : ["--no-sandbox"]), "about:blank"];
+      "--disable-renderer-backgrounding", "--disable-backgrounding-occluded-windows", ...(process.getuid() ? [] : ["--no-sandbox"]),
+      "about:blank"];
     this.#process = spawn(path, words, { stdio: ["ignore", "ignore", "pipe"] });
     const address = await soon("Chromium", new Promise((tell, fail) => {
       let said = "";
@@ -130,7 +132,8 @@ export class Browser {
     const sheet = await this.open("about:blank");
     const width = 1600, height = 595;
     await sheet.call("Emulation.setDeviceMetricsOverride", { width, height, deviceScaleFactor: 1, mobile: false });
-    const images = pictures.map((png) => `<img width="${width / windows.length - 15}" src="data:image/png;base64,${png.toString("base64")}">`);
+    const each = width / windows.length - 15;
+    const images = pictures.map((png) => `<img width="${each}" src="data:image/png;base64,${png.toString("base64")}">`);
     await sheet.value(`document.body.style = "margin:10px;display:flex;gap:10px;align-items:flex-start;background:#cbd2dc";
       document.body.innerHTML = ${JSON.stringify(images.join(""))};
       Promise.all([...document.images].map((image) => image.decode())).then(() => true)`);
@@ -212,7 +215,9 @@ class Window {
   async compose(texts, over = 0) {
     const caret = await this.value("getSelection().focusOffset");
     const place = over ? { replacementStart: caret - over, replacementEnd: caret } : {};
-    for (const text of texts) await this.call("Input.imeSetComposition", { text, selectionStart: text.length, selectionEnd: text.length, ...place });
+    for (const text of texts) {
+      await this.call("Input.imeSetComposition", { text, selectionStart: text.length, selectionEnd: text.length, ...place });
+    }
     await this.call("Input.insertText", { text: texts.at(-1) });
   }
 

@@ -15,6 +15,7 @@ import * as http from "./checks/http.mjs";
 import * as joining from "./checks/joining.mjs";
 import * as pictures from "./checks/pictures.mjs";
 import * as single from "./checks/single.mjs";
+import { run } from "./checks/steps.mjs";
 import * as whole from "./checks/whole.mjs";
 import { clickAfter, dragOver, html, meet, notice } from "./person.mjs";
 
@@ -81,10 +82,10 @@ async function visit(browser, url, act) {
 async function checkSingle(way, browser, start) {
   const all = [...single.cases, ...single.boxes, ...(isWhole ? whole.cases : [])];
   const server = await start(all.map(({ page }) => page));
-  for (const [k, { name, act, wanted }] of all.entries()) {
+  for (const [k, { name, steps, wanted }] of all.entries()) {
     await check(`${way}: ${name}`, () => visit(browser, server.of(k), async (ada) => {
-      if (!act) return assert.deepEqual(await single.boxesOf(ada), wanted);
-      await act(ada);
+      if (!steps) return assert.deepEqual(await single.boxesOf(ada), wanted);
+      await run(ada, steps);
       return assert.equal(await meet(ada), wanted);
     }));
   }
@@ -138,7 +139,8 @@ async function checkPictures() {
   const gallery = await pictures.gallery();
   for (const words of [[], ["--pictures", gallery.origin]]) {
     const server = await withServer([gallery.page], ...words);
-    await check(`pictures: ${words[0] ?? "none allowed"}`, () => visit(browser, server.of(0), (ada) => pictures.check(ada, gallery, words.length > 0)));
+    const look = (ada) => pictures.check(ada, gallery, words.length > 0);
+    await check(`pictures: ${words[0] ?? "none allowed"}`, () => visit(browser, server.of(0), look));
     await server.close();
   }
   gallery.close();

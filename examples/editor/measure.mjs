@@ -44,11 +44,13 @@ try {
     await watch(there);
     for (let k = 0; k < KEYS; k++) {
       await here.type("x");
-      await until("both show it", async () => (await Promise.all([here, there].map((it) => it.value("drawn.length")))).every((count) => count > k));
+      const shown = () => Promise.all([here, there].map((it) => it.value("drawn.length")));
+      await until("both show it", async () => (await shown()).every((count) => count > k));
     }
     const [pressed, drawn, other] = await Promise.all([here.value("pressed"), here.value("drawn"), there.value("drawn")]);
     const mine = drawn.map((at, k) => at - pressed[k]), its = other.map((at, k) => at - pressed[k]);
-    console.log(`${name.padEnd(8)}${opens.toFixed(0).padStart(7)}   ${of(mine, 0.5)}${of(mine, 0.95)}              ${of(its, 0.5)}${of(its, 0.95)}`);
+    const [first, second] = [mine, its].map((list) => `${of(list, 0.5)}${of(list, 0.95)}`);
+    console.log(`${name.padEnd(8)}${opens.toFixed(0).padStart(7)}   ${first}              ${second}`);
     await server.close();
     await here.close();
     await there.close();

@@ -15,7 +15,8 @@ export const shared = (person) => until("all is shared", () => isShared(person))
 
 export const notice = (person) => person.value("(({ hidden, textContent }) => hidden ? '' : textContent)(document.querySelector('#notice'))");
 export const state = (person) => person.value("document.querySelector('#state').textContent");
-export const shows = (person, selector) => person.value(`[...document.querySelectorAll(${JSON.stringify(selector)})].map((dom) => dom.textContent)`);
+export const shows = (person, selector) =>
+  person.value(`[...document.querySelectorAll(${JSON.stringify(selector)})].map((dom) => dom.textContent)`);
 
 /** Where a text of the page begins and ends on the screen. */
 export const placeOf = (person, text) => until(`${text} is shown`, () => person.value(`(() => {
@@ -104,7 +105,9 @@ export const pasteBack = (person) => byClipboard(person, "ctrl+v", "paste");
 
 /** Copies, and gives the HTML that other programs get. */
 export async function copied(person) {
-  await person.value(`void addEventListener("copy", ({ clipboardData }) => (globalThis.copied = clipboardData.getData("text/html")), { once: true })`);
+  await person.value(`void addEventListener("copy", ({ clipboardData }) => {
+    globalThis.copied = clipboardData.getData("text/html");
+  }, { once: true })`);
   await byClipboard(person, "ctrl+c", "copy");
   return person.value("copied");
 }

@@ -168,7 +168,8 @@ export class Room {
   /** The log of a window that went on without a server, in the place of one to which nobody wrote. */
   seed(old, log, lines) {
     return this.#inTurn(() => {
-      if (old !== this.#log || this.#lines.length > 1 || lines[0] !== this.#lines[0]) throw new Rejected(409, "there is another log of this page");
+      const isUntouched = old === this.#log && this.#lines.length === 1 && lines[0] === this.#lines[0];
+      if (!isUntouched) throw new Rejected(409, "there is another log of this page");
       for (const line of lines.slice(1)) checked(line, (site) => site in this.#counts);
       return this.#begin(log, lines);
     });

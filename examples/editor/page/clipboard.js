@@ -15,10 +15,10 @@ function within(nodes, start, from, to) {
   const out = [];
   let at = start;
   for (const node of nodes) {
-    const end = at + node.size;
+    const end = at + node.size, isIn = from < end && at < to;
     if (from <= at && end <= to) out.push(node);
-    else if (isText(node) && from < end && at < to) out.push({ ...node, text: [...node.text].slice(Math.max(0, from - at), to - at).join("") });
-    else if (!isText(node) && !isLeaf(node) && from < end && at < to) out.push({ ...node, kids: within(shown(node), at + 1, from, to) });
+    else if (isText(node) && isIn) out.push({ ...node, text: [...node.text].slice(Math.max(0, from - at), to - at).join("") });
+    else if (!isLeaf(node) && isIn) out.push({ ...node, kids: within(shown(node), at + 1, from, to) });
     at = end;
   }
   return out;

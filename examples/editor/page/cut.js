@@ -66,7 +66,8 @@ export function joined(root, branch, dir) {
   if (isLeaf(beside)) return { lines: [replaced(root, [gap(startOf(beside), endOf(beside))])], what: "erasing" };
   const [before, after] = dir === "back" ? [beside, branch] : [branch, beside];
   if (!isContent(branch)) return emptied(root, branch, beside, dir);
-  return { lines: [replaced(root, cut(root, innerEnd(before), innerStart(after))), select(innerEnd(before))], what: "joining two paragraphs" };
+  const at = innerEnd(before);
+  return { lines: [replaced(root, cut(root, at, innerStart(after))), select(at)], what: "joining two paragraphs" };
 }
 
 // An empty element without a paragraph goes as a whole; a cell stays.

@@ -153,8 +153,8 @@ export class Editor {
     const typing = ({ edit }) => edit?.kind === "type" && !edit.isAgain;
     const text = dropped.filter(typing).map(({ edit }) => edit.text).join("");
     const gone = dropped.filter((one) => !typing(one)).map(({ edit }) => edit?.what ?? "an earlier change");
-    const who = nameOf(dropped[0].who);
-    if (gone.length) this.#heard.notice(`${who} changed the same place at once, and came first. So this was dropped: ${[...new Set(gone)].join(", ")}`);
+    const who = nameOf(dropped[0].who), names = [...new Set(gone)].join(", ");
+    if (gone.length) this.#heard.notice(`${who} changed the same place at once, and came first. So this was dropped: ${names}`);
     if (text) this.act(() => ({ ...typed(this.root, this.selection, text, this.marks), isAgain: true }));
   }
 

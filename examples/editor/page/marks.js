@@ -75,7 +75,8 @@ export function linked(root, selection, address) {
   if (from === to) {
     if (!href) return null;
     const size = scalars(address);
-    return { lines: [batch([{ do: "text", at: from, text: address }, { ...mark, from, to: from + size }]), select(from + size)], what: "a link" };
+    const written = batch([{ do: "text", at: from, text: address }, { ...mark, from, to: from + size }]);
+    return { lines: [written, select(from + size)], what: "a link" };
   }
   const lines = [...unmarked(root, from, to, ["a"]), ...(href ? [{ ...mark, from, to }] : [])];
   return lines.length ? { lines: [batch(lines), select(...selection)], what: "a link" } : null;

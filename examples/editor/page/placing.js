@@ -40,7 +40,8 @@ function besideBranch(branch, at) {
  * How nodes come to stand at an offset: the replacements, and where the caret goes, `far` behind their beginning. Blocks stand beside a
  * branch at whose end the offset is, in the place of one that is empty, else in a branch that is split. `whole` says that the branch
  * stays as it is.
- * @type {(root: TreeNode, offset: number, nodes: TreeNode[], far?: number, whole?: boolean) => string | { edits: Replacement[], caret: number }}
+ * @type {(root: TreeNode, offset: number, nodes: TreeNode[], far?: number, whole?: boolean) =>
+ *   string | { edits: Replacement[], caret: number }}
  */
 export function placement(root, offset, nodes, far = lastText(nodes), whole = true) {
   if (areInline(nodes)) return inText(root, offset, nodes);

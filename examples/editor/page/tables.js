@@ -5,7 +5,7 @@ import { around, endOf, innermost, isContent, parse, shown, startOf } from "./tr
 
 const tableAt = (root, at) => around(innermost(root, at), (node) => node.kind === "table");
 /** @type {(root: TreeNode, selection: Selected) => TreeNode | null} */
-export const cellAt = (root, selection) => around(innermost(root, ends(selection)[0]), (node) => ["td", "th"].includes(node.kind));
+export const cellAt = (root, selection) => around(innermost(root, ends(selection)[0]), isPlain);
 
 const cell = [{ open: "td" }, { open: "p" }, { close: "p" }, { close: "td" }];
 const row = [{ open: "tr" }, ...cell, ...cell, ...cell, { close: "tr" }];
@@ -48,9 +48,9 @@ export function tableChanged(root, selection, word, editor) {
 
 const firstText = (node) => (isContent(node) || shown(node).length === 0 ? startOf(node) + 1 : firstText(shown(node)[0]));
 
-function cellsOf(node) {
-  return shown(node).flatMap((kid) => (kid.kind === "td" || kid.kind === "th" ? [kid] : ["thead", "tbody", "tfoot", "tr"].includes(kid.kind) ? cellsOf(kid) : []));
-}
+const ROWS = new Set(["thead", "tbody", "tfoot", "tr"]);
+const isPlain = (node) => node.kind === "td" || node.kind === "th";
+const cellsOf = (node) => shown(node).flatMap((kid) => (ROWS.has(kid.kind) ? cellsOf(kid) : isPlain(kid) ? [kid] : []));
 
 /**
  * Where the caret goes by Tab: into the next cell, or the one before; nowhere at the table's end.
