@@ -6,7 +6,8 @@ import { sumOf } from "./page/sum.js";
 import { Rejected } from "./rejected.mjs";
 
 const AWAY = 60_000; // milliseconds for which nobody else gets the site of a window that lost its connection
-const MOST = 48 << 20; // bytes of a log; a program reads at most 64 MiB
+const LONG = 48 << 20; // bytes of a log that begins anew as soon as nobody is there
+const MOST = 60 << 20; // bytes of any log: a program reads 64 MiB
 const PIECE = 500; // lines of a log that are sent at once
 
 // What a window may write: what changes something, but for the page that is opened.
@@ -133,6 +134,7 @@ export class Room {
     if (window?.wire !== wire) return; // it came back by another connection
     Object.assign(window, { wire: null, presence: null, since: Date.now() });
     this.#tell(id, "left", { site: window.site });
+    this.#inTurn(() => this.#renew()).catch(() => {});
   }
 
   /** Lines of a window, of which the first has this number among all of its site's. Those that are there already are passed. */
@@ -142,13 +144,13 @@ export class Room {
       if (!window) throw new Rejected(410, "this window's place was given to another one");
       const first = this.#lines.length, has = this.#counts[window.site];
       if (from > has) throw new Rejected(409, "lines before these are missing");
+      if (lines.length && this.#bytes > MOST) throw new Rejected(413, "the page's log is full, and begins anew once all windows are closed");
       try {
         for (const line of lines.slice(has - from)) await this.#writeOne(checked(line, (site) => site === window.site));
       } finally {
         this.#tellLines(first);
       }
       if (presence) this.#tell(id, "presence", { site: window.site, ...(window.presence = presence) });
-      if (this.#bytes > MOST) await this.#renew();
     });
   }
 
@@ -157,8 +159,9 @@ export class Room {
     if (!accepted(reply)) throw new Rejected(409, `the server's core answers ${reply} to a line of this window`);
   }
 
-  // The log begins anew, by the page as it is. What isn't joined yet is joined before.
+  // A long log begins anew where nobody is there, by the page as it is. What isn't joined yet is joined before.
   async #renew() {
+    if (this.#bytes < LONG || [...this.#windows.values()].some(({ wire }) => wire)) return;
     for (let k = 0; k < this.#counts.length; k++) await this.#cleared(k);
     await this.#cleared(0);
     const page = JSON.parse((await this.#core.line('{"do":"html"}')).slice(3));

@@ -45,9 +45,9 @@ function lifted(root, list, lo, hi) {
     ...(item.kids.length ? [] : [{ at: startOf(item) + 1, gone: 0, came: [{ open: "p" }, { close: "p" }] }]),
     { at: endOf(item) - 1, gone: 1, came: [] },
   ]);
-  const begins = list.kids[0] === first, ends = list.kids.at(-1) === last;
-  edits.unshift(begins ? { at: startOf(list), gone: 1, came: [] } : { at: startOf(first), gone: 0, came: [{ close: list.kind }] });
-  edits.push(ends ? { at: endOf(list) - 1, gone: 1, came: [] } : { at: endOf(last), gone: 0, came: [again(list)] });
+  const isFirst = list.kids[0] === first, isLast = list.kids.at(-1) === last;
+  edits.unshift(isFirst ? { at: startOf(list), gone: 1, came: [] } : { at: startOf(first), gone: 0, came: [{ close: list.kind }] });
+  edits.push(isLast ? { at: endOf(list) - 1, gone: 1, came: [] } : { at: endOf(last), gone: 0, came: [again(list)] });
   return { lines: [replaced(root, edits)], what: "the end of a list" };
 }
 

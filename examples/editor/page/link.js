@@ -1,6 +1,7 @@
 // What goes over the wire: the log's lines come by server-sent events, and own lines go by POST. A request that is lost is sent again: the
 // server counts each site's lines, and passes those that it has.
 const PAUSE = 500; // milliseconds between two tries
+const GONE = 410; // the server doesn't know the window, as where its log was begun anew
 
 export class Link {
   isThere = false;
@@ -91,7 +92,7 @@ export class Link {
     for (let body; this.isThere && (body = this.#next()); ) {
       const answer = await this.#ask("lines", body);
       if (answer?.ok) this.#written = Math.max(this.#written, body.from + body.lines.length);
-      else if (answer && answer.status < 500) this.#refuse(await answer.text());
+      else if (answer && answer.status < 500 && answer.status !== GONE) this.#refuse(await answer.text());
       else this.#lose();
     }
     this.#isWriting = false;

@@ -133,12 +133,12 @@ export class Log {
 
   // The server has the same log, or none that anybody wrote to, or another one.
   async #greet({ log, id, site, length, isKnown, isUntouched }) {
-    if (isKnown) return this.#share({ ...this.#about, id, site });
     if (!this.#session) {
       this.#about = { log, id, site, isShared: true };
       this.#expected = length;
       return undefined;
     }
+    if (isKnown && site === this.#session.site) return this.#share({ ...this.#about, id });
     if (isUntouched && (await this.#link.seed(log, this.#about.log, this.#lines))) return this.#link.reconnect();
     if (this.#hasOwn) return this.#heard.stopped("The server has another copy of this page, with which yours can't be joined");
     this.#keep?.forget();
@@ -147,7 +147,7 @@ export class Log {
 
   // Whether there is something of this window's own that would be lost.
   get #hasOwn() {
-    return this.#about.isShared ? this.#session.ahead.lines.length > 0 : this.#lines.length > 1;
+    return this.#about.isShared ? this.#session.isPending : this.#lines.length > 1;
   }
 
   #share(about) {

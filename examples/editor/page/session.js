@@ -130,6 +130,11 @@ export class Session {
     return last.length === count && last.every((edit) => edits.includes(edit));
   }
 
+  /** Whether there are changes of the site that aren't committed. */
+  get isPending() {
+    return this.#pending.length > 0;
+  }
+
   /** The site is in touch with the log again: what was done meanwhile is sent. */
   resume() {
     this.#send();
