@@ -60,7 +60,7 @@ export class History {
     const step = from.at(-1);
     if (!step) return `There is nothing to ${word}`;
     const way = wayBack(step, session);
-    if (way === LATER) return LATER;
+    if (!way.lines) return way;
     from.pop();
     this.pause();
     const refused = () => `This can't be ${done}: a later change stands in its place`;
@@ -72,12 +72,16 @@ export class History {
   }
 }
 
+// What was taken back is sure to count no more where nothing else was on its way then; so a window that is in touch waits for that.
 function wayBack({ edits, again }, session) {
   if (again) return { lines: Array(again).fill({ do: "redo" }) };
-  if (edits.every(isNumbered)) return { lines: numbersOf(edits).reverse().map((entry) => ({ do: "revoke", entry, live: true })) };
-  if (!session.areUnsent(edits)) return LATER;
-  const count = edits.flatMap(({ lines }) => lines.filter(makesChange)).length;
-  return { lines: Array(count).fill({ do: "undo" }), again: count };
+  if (session.areUnsent(edits)) {
+    const count = edits.flatMap(({ lines }) => lines.filter(makesChange)).length;
+    return { lines: Array(count).fill({ do: "undo" }), again: count };
+  }
+  if (session.isInTouch && session.isPending) return LATER;
+  if (!edits.every(isNumbered)) return "This is on its way to the server, and can be undone when it has come back";
+  return { lines: numbersOf(edits).reverse().map((entry) => ({ do: "revoke", entry, live: true })) };
 }
 
 const joins = (last, step) => step.kind && last.kind === step.kind && step.time - last.time <= BURST;

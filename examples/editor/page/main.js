@@ -81,6 +81,7 @@ const log = new Log(page, () => new World(module), await Keep.open(page), {
   },
   state(state) {
     find("#state").textContent = STATES[state];
+    editor.catchUp(); // what waited for the server may go on otherwise
   },
   stopped,
 });

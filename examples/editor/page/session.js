@@ -130,6 +130,11 @@ export class Session {
     return last.length === count && last.every((edit) => edits.includes(edit));
   }
 
+  /** Whether what is sent is answered soon. */
+  get isInTouch() {
+    return this.#log.isThere;
+  }
+
   /** Whether there are changes of the site that aren't committed. */
   get isPending() {
     return this.#pending.length > 0;
