@@ -67,6 +67,14 @@ class Server:
         self._process.wait()
         self._process = None
 
+    def finish(self) -> int:
+        """Tells it to end; its status."""
+        self.send(signal.SIGTERM)
+        assert self._process is not None
+        status = self._process.wait(20)
+        self._process = None
+        return status
+
     def end(self) -> None:
         if self._process is not None:
             self.kill()

@@ -27,6 +27,10 @@ class Elsewhere(Exception):
         self.address = address
 
 
+class Gone(Exception):
+    """The page was deleted."""
+
+
 @dataclass(frozen=True)
 class Span:
     """A page's log: the number of its newest `open`, and the number that its next line gets."""
@@ -56,6 +60,12 @@ class Log(Protocol):
 
     async def create(self, page: str, line: str) -> bool:
         """A new page whose first line is this `open`; False where there is one of that name."""
+
+    async def delete(self, page: str) -> None:
+        """Deletes a page of which this server is the writer."""
+
+    async def names(self, after: str, most: int) -> list[str]:
+        """So many pages, in the order of their names, from the first one after this name on."""
 
     async def span(self, page: str) -> Span | None:
         """None where there is no such page."""

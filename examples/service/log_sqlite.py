@@ -61,6 +61,20 @@ class SqliteLog:
                 return made.rowcount == 1
         return await self._do(call)
 
+    async def delete(self, page: str) -> None:
+        def call() -> None:
+            with self._base:
+                self._base.execute("BEGIN IMMEDIATE")
+                self._base.execute("DELETE FROM pages WHERE page = ?", (page,))
+                self._base.execute("DELETE FROM lines WHERE page = ?", (page,))
+        await self._do(call)
+
+    async def names(self, after: str, most: int) -> list[str]:
+        def call() -> list[str]:
+            rows = self._base.execute("SELECT page FROM pages WHERE page > ? ORDER BY page LIMIT ?", (after, most))
+            return [row[0] for row in rows.fetchall()]
+        return await self._do(call)
+
     async def span(self, page: str) -> Span | None:
         def call() -> Span | None:
             row = self._base.execute("SELECT first, next FROM pages WHERE page = ?", (page,)).fetchone()

@@ -1,0 +1,252 @@
+"""Pages by HTTP, and lines by WebSocket."""
+from __future__ import annotations
+
+import asyncio
+import contextlib
+import json
+from collections.abc import AsyncIterator, Awaitable, Callable
+
+from aiohttp import ClientSession, ClientTimeout, ClientWebSocketResponse, WSMsgType, web
+
+from access import Visitor
+from asks import Enter, Rise, Show
+from homes import Homes
+from log import Gone, Lost, Span
+from page import Page
+from programs import Ended
+from seats import SITES, Seats, digest, spelled
+from talk import Talk, send_lines, together
+from wire import GOODBYE, MOST_MESSAGE, Bad, Wire, Wires, number_of, said
+from world import Shared
+
+ANSWER = 6.0  # seconds that another server has for beginning to talk
+BODY = 20.0  # seconds in which a page has to be sent
+HELLO = 10.0  # seconds in which who writes has to say who it is
+SOME = 100  # names that one reading gives, unless it asks for another number
+MOST_SOME = 1000
+HOP = "X-Vemodel-Hop"  # a request that another server handed on: it isn't handed on again
+AGAIN = 1012  # the code by which a connection ends where its client is to connect anew
+
+
+class Service:
+    def __init__(self, address: str, shared: Shared, homes: Homes, wires: Wires, peers: ClientSession) -> None:
+        self._address, self._shared, self._homes, self._wires, self._peers = address, shared, homes, wires, peers
+
+    def routes(self) -> list[web.RouteDef]:
+        return [
+            web.get("/pages", self.names),
+            web.put("/pages/{page}", self.create),
+            web.get("/pages/{page}", self.show),
+            web.delete("/pages/{page}", self.delete),
+            web.get("/pages/{page}/lines", self.lines),
+            web.get("/pages/{page}/follow", self.follow),
+            web.get("/pages/{page}/edit", self.edit),
+            web.get("/metrics", self.metrics),
+        ]
+
+    # HTTP
+
+    async def names(self, request: web.Request) -> web.Response:
+        """The pages that the visitor may read, by name, after one and so many."""
+        visitor = visitor_of(request)
+        most = min(number_of(request.query.get("most"), SOME), MOST_SOME)
+        found = await self._shared.log.names(request.query.get("after", ""), most)
+        more = {"next": found[-1]} if len(found) == most and found else {}
+        return web.json_response({"pages": [name for name in found if visitor.reads(name)], **more})
+
+    async def create(self, request: web.Request) -> web.Response:
+        name = named(request, write=True)
+        async with asyncio.timeout(BODY):
+            text = (await request.read()).decode()
+        line = spelled({"do": "open", "page": text, "sites": SITES, "log": Seats().told()})
+        core = await self._shared.programs.start()
+        try:
+            [reply] = await core.run([line])
+        except Ended as fault:
+            raise web.HTTPInsufficientStorage(text=f"{fault}\n") from fault
+        finally:
+            await core.close()
+        if not reply.startswith("ok"):
+            raise web.HTTPUnprocessableEntity(text=reply + "\n")
+        if not await self._shared.log.create(name, line):
+            raise web.HTTPConflict(text="there is such a page\n")
+        return web.Response(status=201, text=reply + "\n")
+
+    async def show(self, request: web.Request) -> web.Response:
+        """The committed page."""
+        name = named(request)
+
+        async def here(page: Page) -> web.Response:
+            told = await page.put(Show())
+            if "error" in told:
+                raise web.HTTPInsufficientStorage(text=f"{told['why']}\n")
+            return web.Response(text=json.loads(told["reply"][3:]), content_type="text/plain", charset="utf-8",
+                                headers={"X-Vemodel-Next": str(told["next"])})
+
+        return await self._at_home(request, name, here)
+
+    async def delete(self, request: web.Request) -> web.Response:
+        name = named(request, write=True)
+
+        async def here(page: Page) -> web.Response:
+            await self._homes.delete(page)
+            return web.Response(status=204)
+
+        return await self._at_home(request, name, here)
+
+    async def lines(self, request: web.Request) -> web.StreamResponse:
+        """The log from a number on, or from the newest `open`: what the program is to run for the page."""
+        name, span, number = await self._span(request)
+        answer = web.StreamResponse(headers={"Content-Type": "application/jsonl; charset=utf-8"})
+        await answer.prepare(request)
+        while number < span.next and (rows := await self._shared.log.read(name, number)):
+            await answer.write("".join(line + "\n" for _, line in rows).encode())
+            number = rows[-1][0] + 1
+        return answer
+
+    async def metrics(self, request: web.Request) -> web.Response:
+        if not visitor_of(request).operates:
+            raise web.HTTPForbidden(text="not yours to see\n")
+        pages = list(self._homes.pages.values())
+        told = {
+            "pages": len(pages), "programs": self._shared.programs.running, "connections": len(self._wires),
+            "lines_total": self._shared.lines, "bytes_total": self._shared.bytes,
+            "waiting": sum(page.waiting for page in pages), "waiting_bytes": self._wires.waiting,
+            "log_bytes": sum(page.log_bytes for page in pages),
+        }
+        return web.Response(text="".join(f"vemodel_{name} {value}\n" for name, value in told.items()))
+
+    async def _span(self, request: web.Request) -> tuple[str, Span, int]:
+        """The page, its log, and where in it to begin. A number that the log hasn't reached is of a page that was deleted."""
+        name = named(request)
+        span = await self._shared.log.span(name)
+        if span is None:
+            raise web.HTTPNotFound(text="no such page\n")
+        number = number_of(request.query.get("from"), span.first)
+        return name, span, number if number <= span.next else span.first
+
+    async def _at_home(self, request: web.Request, name: str, here: Callable[[Page], Awaitable[web.Response]]) -> web.Response:
+        async def there(address: str) -> web.Response:
+            async with self._peers.request(request.method, f"http://{address}{request.path_qs}", headers=handed_on(request),
+                                           timeout=ClientTimeout(ANSWER)) as answer:
+                if answer.status == 503:
+                    raise asyncio.TimeoutError
+                kept = {name: answer.headers[name] for name in ("Content-Type", "X-Vemodel-Next") if name in answer.headers}
+                return web.Response(status=answer.status, body=await answer.read(), headers=kept)
+
+        return await self._homes.at_home(name, HOP in request.headers, here, there)
+
+    # WebSocket
+
+    @contextlib.asynccontextmanager
+    async def _wire(self, request: web.Request) -> AsyncIterator[Wire]:
+        wire = Wire()
+        await wire.begin(request)
+        self._wires.add(wire)
+        try:
+            with contextlib.suppress(ConnectionError, Lost, Gone, asyncio.TimeoutError):
+                yield wire
+        finally:
+            self._wires.discard(wire)
+            await wire.socket.close(code=AGAIN)
+
+    async def follow(self, request: web.Request) -> web.WebSocketResponse:
+        """Sends the page's lines from a number on, at whichever server."""
+        name, span, number = await self._span(request)
+        async with self._wire(request) as wire:
+            with self._homes.following(name, span) as feed:
+                await together(send_lines(feed, number, wire), listen(wire))
+        return wire.socket
+
+    async def edit(self, request: web.Request) -> web.WebSocketResponse:
+        """Who writes. The page's own server hears it; any other one hands on what it hears."""
+        name = named(request)
+
+        async def here(page: Page) -> web.WebSocketResponse:
+            async with self._wire(request) as wire:
+                await self._hear(page, wire, visitor_of(request))
+            return wire.socket
+
+        async def there(address: str) -> web.WebSocketResponse:
+            # A server that is paused takes connections, and answers nothing.
+            peer = await asyncio.wait_for(self._peers.ws_connect(
+                f"http://{address}{request.path_qs}", headers=handed_on(request), max_msg_size=0, timeout=GOODBYE), ANSWER)
+            try:
+                async with self._wire(request) as wire:
+                    await hand_on(wire, peer)
+            finally:
+                # Only who says goodbye gives its seat back.
+                await peer.close(code=1000 if wire.said_goodbye else AGAIN)
+            return wire.socket
+
+        return await self._homes.at_home(name, HOP in request.headers, here, there)
+
+    async def _hear(self, page: Page, wire: Wire, visitor: Visitor) -> None:
+        try:
+            async with asyncio.timeout(HELLO):
+                text = await wire.hear()
+            if text is None:
+                return
+            hello = said(text)
+            key, start = hello.get("key"), hello.get("from")
+            if not isinstance(key, str) or len(key) < 16:
+                raise Bad("a key has 16 characters or more")
+            number = None if start is None else number_of(start)
+        except Bad as fault:
+            await wire.tell({"error": "bad", "why": str(fault)})
+            return
+        holder = digest(key)
+        entered = await page.put(Enter(holder))
+        guest = page.presence.come(visitor.name, holder)
+        page.seating.came(holder)
+        try:
+            await wire.tell({**entered, "who": guest.who, "name": visitor.name, "server": self._address})
+            span = Span(entered["open"], entered["next"])
+            talk = Talk(page, wire, guest, visitor.writes(page.name))
+            with self._homes.following(page.name, span) as feed:
+                lines = [] if number is None else [send_lines(feed, number if number <= span.next else span.first, wire)]
+                await talk.run(*lines)
+        finally:
+            page.presence.go(guest)
+            if page.seating.left(holder) and wire.said_goodbye:
+                page.put(Rise(holder))
+
+
+def visitor_of(request: web.Request) -> Visitor:
+    visitor: Visitor = request["visitor"]
+    return visitor
+
+
+def named(request: web.Request, write: bool = False) -> str:
+    """The page that is asked for, which the visitor may read, or write."""
+    name = request.match_info["page"]
+    if not 0 < len(name) <= 200 or not name.isprintable():
+        raise web.HTTPBadRequest(text="a page's name has 1 to 200 printable characters\n")
+    visitor = visitor_of(request)
+    if not (visitor.writes if write else visitor.reads)(name):
+        raise web.HTTPForbidden(text="not yours to write\n" if write else "not yours to read\n")
+    return name
+
+
+def handed_on(request: web.Request) -> dict[str, str]:
+    """What another server needs to see for itself who asks."""
+    return {HOP: "1", **{name: request.headers[name] for name in ("Authorization", "Cookie") if name in request.headers}}
+
+
+async def listen(wire: Wire) -> None:
+    """Who follows has nothing to say."""
+    while await wire.hear() is not None:
+        pass
+
+
+async def hand_on(wire: Wire, peer: ClientWebSocketResponse) -> None:
+    async def there() -> None:
+        while (text := await wire.hear()) is not None:
+            await peer.send_str(text)
+
+    async def back() -> None:
+        async for told in peer:
+            if told.type is WSMsgType.TEXT:
+                await wire.send(told.data)
+
+    await together(there(), back())
