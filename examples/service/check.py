@@ -17,6 +17,7 @@ if find_spec("aiohttp") is None:
 
 from judge import Wrong
 from programs import PROGRAM
+from siege import attack
 from trial import Trial
 
 
@@ -61,6 +62,11 @@ def main() -> None:
             print(f"skipped: no {missing}")
             continue
         trial(engine, given)
+    try:
+        attack(given.program)
+    except Wrong as fault:
+        print(f"service: adversary: {fault}")
+        raise SystemExit(1) from fault
 
 
 if __name__ == "__main__":

@@ -2,6 +2,7 @@
 from __future__ import annotations
 
 import contextlib
+import os
 import signal
 import socket
 import sqlite3
@@ -56,6 +57,16 @@ class Server:
                 if time.monotonic() > until:
                     raise SystemExit(f"service: no server: see {self._log.name}") from None
                 time.sleep(0.05)
+
+    @property
+    def memory(self) -> int:
+        """The bytes that its process has in memory; its programs aren't counted."""
+        assert self._process is not None
+        return int(Path(f"/proc/{self._process.pid}/statm").read_text().split()[1]) * os.sysconf("SC_PAGE_SIZE")
+
+    @property
+    def complaints(self) -> str:
+        return Path(self._log.name).read_text()
 
     def send(self, number: signal.Signals) -> None:
         assert self._process is not None

@@ -5,6 +5,7 @@ import asyncio
 import contextlib
 import json
 from collections.abc import AsyncIterator, Awaitable, Callable
+from urllib.parse import unquote
 
 from aiohttp import ClientSession, ClientTimeout, ClientWebSocketResponse, WSMsgType, web
 
@@ -219,7 +220,7 @@ def visitor_of(request: web.Request) -> Visitor:
 
 def named(request: web.Request, write: bool = False) -> str:
     """The page that is asked for, which the visitor may read, or write."""
-    name = request.match_info["page"]
+    name = unquote(request.rel_url.raw_parts[2], errors="strict")
     if not 0 < len(name) <= 200 or not name.isprintable():
         raise web.HTTPBadRequest(text="a page's name has 1 to 200 printable characters\n")
     visitor = visitor_of(request)
