@@ -62,7 +62,13 @@ class Server:
     def memory(self) -> int:
         """The bytes that its process has in memory; its programs aren't counted."""
         assert self._process is not None
-        return int(Path(f"/proc/{self._process.pid}/statm").read_text().split()[1]) * os.sysconf("SC_PAGE_SIZE")
+        return resident(self._process.pid)
+
+    @property
+    def memory_of_programs(self) -> int:
+        assert self._process is not None
+        children = Path(f"/proc/{self._process.pid}/task").glob("*/children")
+        return sum(resident(int(child)) for task in children for child in task.read_text().split())
 
     @property
     def complaints(self) -> str:
@@ -89,6 +95,14 @@ class Server:
     def end(self) -> None:
         if self._process is not None:
             self.kill()
+
+
+def resident(process: int) -> int:
+    """The bytes that a process has in memory; none where it has ended."""
+    try:
+        return int(Path(f"/proc/{process}/statm").read_text().split()[1]) * os.sysconf("SC_PAGE_SIZE")
+    except OSError:
+        return 0
 
 
 def put(address: str, page: str, html: str) -> None:

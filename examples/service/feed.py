@@ -9,6 +9,7 @@ from itertools import islice
 from log import Gone, Log, Span
 
 TAIL = 4 << 20  # bytes of the newest lines that are kept at hand
+GATHER = 0.05  # seconds for which lines are gathered where they come fast
 SHARED = 8  # messages that are kept for others to be sent
 MESSAGE = 256 << 10  # bytes of lines that one message has, but for a line that is longer
 
@@ -22,6 +23,8 @@ class Feed:
         self._tail: deque[str] = deque()  # the lines just before the number `_end`
         self._end, self._bytes = span.next, 0
         self._more = asyncio.Event()
+        self._woken = 0.0
+        self._timer: asyncio.TimerHandle | None = None
         self._reading = asyncio.Lock()
         self._messages: dict[int, tuple[int, str]] = {}  # by the number that they begin with
 
@@ -35,7 +38,9 @@ class Feed:
         """The log's next number is this one, or a later one."""
         if number > self.next:
             self.next = number
-            self._wake()
+            if self._timer is None:
+                loop = asyncio.get_running_loop()
+                self._timer = loop.call_at(max(loop.time(), self._woken + GATHER), self._wake)
 
     def end(self) -> None:
         """The page was deleted."""
@@ -43,6 +48,7 @@ class Feed:
         self._wake()
 
     def _wake(self) -> None:
+        self._timer, self._woken = None, asyncio.get_running_loop().time()
         self._more.set()
         self._more = asyncio.Event()
 
