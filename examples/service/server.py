@@ -20,6 +20,7 @@ from log import Log, Lost
 from log_sqlite import SqliteLog
 from programs import PROGRAM, Crowded, Programs
 from service import Service
+from window import Window
 from wire import Bad, Wires
 from world import Shared, Strange
 
@@ -104,7 +105,7 @@ async def serve(given: argparse.Namespace) -> None:
         service = Service(given.listen, shared, homes, wires, await stack.enter_async_context(ClientSession()))
         requests = Requests(Gate(given.listen, given.host, given.origin), access(given.access))
         app = web.Application(client_max_size=given.page, middlewares=[requests.answer])
-        app.add_routes(service.routes())
+        app.add_routes([*service.routes(), *Window(given.module).routes()])
         app.on_response_prepare.append(safe)
         runner = web.AppRunner(app, access_log=None)
         await runner.setup()
@@ -132,6 +133,7 @@ def words() -> argparse.ArgumentParser:
     known.add_argument("--log", default="pages.sqlite", help="a file of SQLite, or a database: postgresql://...")
     known.add_argument("--history", action="store_true", help="keep the lines before a cut")
     known.add_argument("--program", type=Path, default=PROGRAM)
+    known.add_argument("--module", type=Path, help="the program for browsers, if it isn't that of the repository")
     known.add_argument("--programs", type=int, default=100, help="that run at once: one for each page that is open")
     known.add_argument("--memory", type=int, default=1 << 30, metavar="BYTES", help="of each of them")
     known.add_argument("--waiting", type=int, default=256 << 20, metavar="BYTES", help="that all connections together may let wait")

@@ -201,7 +201,7 @@ class Service:
         guest = page.presence.come(visitor.name, holder)
         page.seating.came(holder)
         try:
-            await wire.tell({**entered, "who": guest.who, "name": visitor.name, "server": self._address})
+            await wire.tell({**entered, "who": guest.who, "name": visitor.name, "holder": holder, "server": self._address})
             span = Span(entered["open"], entered["next"])
             talk = Talk(page, wire, guest, visitor.writes(page.name))
             with self._homes.following(page.name, span) as feed:
