@@ -8,6 +8,7 @@ import shutil
 import subprocess
 import sys
 import tempfile
+from concurrent.futures import ThreadPoolExecutor
 from importlib.util import find_spec
 from pathlib import Path
 
@@ -18,7 +19,9 @@ if find_spec("aiohttp") is None:
 from judge import Wrong
 from programs import PROGRAM
 from siege import attack
+from strangers import check_strangers
 from trial import Trial
+from windows import check_windows
 
 
 def trial(engine: str, given: argparse.Namespace) -> None:
@@ -62,11 +65,13 @@ def main() -> None:
             print(f"skipped: no {missing}")
             continue
         trial(engine, given)
-    try:
-        attack(given.program)
-    except Wrong as fault:
-        print(f"service: adversary: {fault}")
-        raise SystemExit(1) from fault
+    with ThreadPoolExecutor() as pool:
+        parts = [pool.submit(part, given.program) for part in (attack, check_strangers, check_windows)]
+    for part in parts:
+        fault = part.exception()
+        if fault is not None:
+            print(f"service: {fault!r}")
+            raise SystemExit(1) from fault
 
 
 if __name__ == "__main__":

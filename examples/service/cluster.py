@@ -10,6 +10,7 @@ import subprocess
 import sys
 import time
 import urllib.request
+from collections.abc import Mapping
 from pathlib import Path
 from typing import Any
 
@@ -36,16 +37,17 @@ class Sqlite:
 class Server:
     """One server, which is killed and started again at the same address."""
 
-    def __init__(self, folder: Path, words: list[str]) -> None:
+    def __init__(self, folder: Path, words: list[str], environment: Mapping[str, str] = os.environ) -> None:
         with socket.socket() as free:
             free.bind(("127.0.0.1", 0))
             self.address = f"127.0.0.1:{free.getsockname()[1]}"
         self._words = [sys.executable, str(SERVER), "--listen", self.address, *words]
+        self._environment = environment
         self._log = open(folder / "servers.log", "a")
         self._process: subprocess.Popen[bytes] | None = None
 
     def start(self) -> None:
-        self._process = subprocess.Popen(self._words, stdout=subprocess.DEVNULL, stderr=self._log)
+        self._process = subprocess.Popen(self._words, stdout=subprocess.DEVNULL, stderr=self._log, env=self._environment)
 
     def ready(self) -> None:
         until = time.monotonic() + 30

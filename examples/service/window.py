@@ -1,6 +1,7 @@
 """The files of the window in `page/`, and of the program that runs in it."""
 from __future__ import annotations
 
+import os
 from pathlib import Path
 
 from aiohttp import web
@@ -14,15 +15,25 @@ POLICY = ("default-src 'none'; script-src 'self' 'wasm-unsafe-eval'; style-src '
 MODULE = "vemodel.wasm"
 
 
+WEB = ROOT / "clients" / "web"
+PAGE = Path(__file__).with_name("page")
+
+
+def found_module() -> Path | None:
+    """The program for browsers: the one that VEMODEL_MODULE names, or that of the repository."""
+    named = os.environ.get("VEMODEL_MODULE")
+    found = [Path(named)] if named else [WEB / MODULE, ROOT / "release" / MODULE]
+    return next((file for file in found if file.exists()), None)
+
+
 class Window:
-    def __init__(self, module: Path | None) -> None:
-        """The program for browsers is this file, or the one of the repository."""
-        web_client = ROOT / "clients" / "web"
-        found = [module] if module else [web_client / MODULE, ROOT / "release" / MODULE]
-        self._files = {f"/window/{file.name}": file for file in Path(__file__).with_name("page").iterdir()}
-        self._files |= {f"/web/{file.name}": file for file in web_client.glob("*.js")}
-        self._files |= {f"/web/{MODULE}": file for file in reversed(found) if file.exists()}
-        self._files["/window/"] = Path(__file__).with_name("page") / "index.html"
+    def __init__(self) -> None:
+        self._files = {f"/window/{file.name}": file for file in PAGE.iterdir()}
+        self._files |= {f"/web/{file.name}": file for file in WEB.glob("*.js")}
+        self._files["/window/"] = PAGE / "index.html"
+        module = found_module()
+        if module is not None:
+            self._files[f"/web/{MODULE}"] = module
 
     def routes(self) -> list[web.RouteDef]:
         return [web.get("/window/{file:[^/]*}", self.file), web.get("/web/{file}", self.file)]

@@ -143,8 +143,7 @@ export class Writer {
     for (const intent of this.#intents.splice(0)) {
       const made = intent(this);
       if (!made?.lines.every((line) => this.#do(line))) continue;
-      this.#show();
-      if (made.selection) this.selection = made.selection;
+      this.#show(made.selection);
     }
     this.#meetTheOthers();
     this.#show();
@@ -165,8 +164,8 @@ export class Writer {
     this.#show();
   }
 
-  // Brings the items up to what the replica shows, and the selections with them.
-  #show() {
+  // Brings the items up to what the replica shows, and the selections with them; or puts this writer's where an edit wants it.
+  #show(wanted) {
     const replica = this.#replica, drawn = `${replica.worlds} ${replica.shown}`;
     const isWhole = drawn !== this.#drawn;
     const { patches, came } = isWhole ? { patches: replica.changes() && [], came: [] } : replica.changes();
@@ -176,7 +175,7 @@ export class Writer {
     for (const [at, removed, inserted] of patches) this.items.splice(at, removed, ...Array(inserted));
     for (const [at, items] of came) single(items).forEach((item, k) => (this.items[at + k] = item));
     const moved = (at) => Math.min(patches.reduce(mapped, at), this.items.length);
-    this.selection = this.selection.map(moved);
+    this.selection = wanted ?? this.selection.map(moved);
     for (const one of this.people.values()) one.selection = one.selection?.map(moved);
     this.#heard.changed();
     this.#tell();
