@@ -154,7 +154,7 @@ class Page:
         for queued in taken:
             request, answer = queued
             number = {"n": request.n} if isinstance(request, Change) else {}
-            if len(taken) > 1 and not (isinstance(request, (Ask, Change)) and request.holder in guilty):
+            if not (isinstance(request, (Ask, Change)) and request.holder in guilty):
                 try:
                     await self._do([queued])
                     continue
