@@ -36,7 +36,7 @@ class Page:
         self._resting = False
         self._used = asyncio.get_running_loop().time()
         self._tidied = 0.0
-        self._over = False
+        self.over = asyncio.Event()  # nothing is answered any more, so who is here is to connect anew
         self._requests: deque[Queued] = deque()
         self._standing: deque[tuple[Queued, float]] = deque()  # who waits for a seat, and since when
         self._wake = asyncio.Event()
@@ -52,7 +52,7 @@ class Page:
         """Its answer. Raises `Lost` where this server can't answer; whether the request was done is then to be asked of the
         next one."""
         answer: asyncio.Future[Line] = asyncio.get_running_loop().create_future()
-        if self._over:
+        if self.over.is_set():
             answer.set_exception(Lost(self.name))
             answer.exception()
         else:
@@ -74,7 +74,7 @@ class Page:
 
     def give_up(self) -> None:
         """What wasn't answered is for the next one who runs the log."""
-        self._over = True
+        self.over.set()
         self._task.cancel()
 
     async def close(self) -> None:
@@ -87,7 +87,7 @@ class Page:
 
     async def finish(self) -> None:
         """Answers what has come, and ends."""
-        while self._requests and not self._over:
+        while self._requests and not self.over.is_set():
             await asyncio.sleep(0.01)
         await self.close()
 
@@ -108,7 +108,7 @@ class Page:
         except (Lost, Strange, Crowded):
             pass
         finally:
-            self._over = True
+            self.over.set()
             for _, answer in (*taken, *self._requests, *(queued for queued, _ in self._standing)):
                 if not answer.done():
                     answer.set_exception(Lost(self.name))

@@ -120,6 +120,7 @@ async def serve(given: argparse.Namespace) -> None:
         await stop.wait()
         await site.stop()
         await homes.finish()
+        await wires.close()
         for task in tasks:
             task.cancel()
 

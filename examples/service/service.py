@@ -7,7 +7,7 @@ import json
 from collections.abc import AsyncIterator, Awaitable, Callable
 from urllib.parse import unquote
 
-from aiohttp import ClientSession, ClientTimeout, ClientWebSocketResponse, WSMsgType, web
+from aiohttp import ClientError, ClientSession, ClientTimeout, ClientWebSocketResponse, WSMsgType, web
 
 from access import Visitor
 from asks import Enter, Rise, Show
@@ -17,7 +17,7 @@ from page import Page
 from programs import Ended
 from seats import SITES, Seats, digest, spelled
 from talk import Talk, send_lines, together
-from wire import GOODBYE, MOST_MESSAGE, Bad, Wire, Wires, number_of, said
+from wire import GOODBYE, Bad, Wire, Wires, number_of, said
 from world import Shared
 
 ANSWER = 6.0  # seconds that another server has for beginning to talk
@@ -145,7 +145,8 @@ class Service:
         await wire.begin(request)
         self._wires.add(wire)
         try:
-            with contextlib.suppress(ConnectionError, Lost, Gone, asyncio.TimeoutError):
+            # The answer has begun, so all that is left to say is that it ends.
+            with contextlib.suppress(ConnectionError, ClientError, Lost, Gone, Bad, asyncio.TimeoutError):
                 yield wire
         finally:
             self._wires.discard(wire)
@@ -172,12 +173,14 @@ class Service:
             # A server that is paused takes connections, and answers nothing.
             peer = await asyncio.wait_for(self._peers.ws_connect(
                 f"http://{address}{request.path_qs}", headers=handed_on(request), max_msg_size=0, timeout=GOODBYE), ANSWER)
+            said_goodbye = False
             try:
                 async with self._wire(request) as wire:
                     await hand_on(wire, peer)
+                said_goodbye = wire.said_goodbye
             finally:
                 # Only who says goodbye gives its seat back.
-                await peer.close(code=1000 if wire.said_goodbye else AGAIN)
+                await peer.close(code=1000 if said_goodbye else AGAIN)
             return wire.socket
 
         return await self._homes.at_home(name, HOP in request.headers, here, there)

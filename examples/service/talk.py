@@ -7,7 +7,6 @@ from typing import Any
 
 from asks import Ask, Change, Request, Rise, Sit
 from feed import Feed
-from log import Lost
 from page import Page
 from presence import Guest
 from seats import CHANGES, READS, UNANSWERED, Line
@@ -28,7 +27,7 @@ class Talk:
 
     async def run(self, *others: Coroutine[Any, Any, None]) -> None:
         """Until the connection or the page ends."""
-        await together(self._listen(), self._answer(), self._tell_news(), *others)
+        await together(self._listen(), self._answer(), self._tell_news(), self._page_ended(), *others)
 
     async def _listen(self) -> None:
         while True:
@@ -93,6 +92,9 @@ class Talk:
             self._answered.set()
             if told.get("error") == "ended":
                 return
+
+    async def _page_ended(self) -> None:
+        await self._page.over.wait()
 
     async def _tell_news(self) -> None:
         while True:

@@ -40,10 +40,10 @@ class Trial:
         self.engine, self._program, self._names = engine, program, names
         self._base: cluster.Sqlite | Postgres
         if engine == "postgres":
-            from database import Postgres, programs
-            at = programs()
+            import database
+            at = database.programs()
             assert at is not None
-            self._base = Postgres(at, folder)
+            self._base = database.Postgres(at, folder)
         else:
             self._base, servers = cluster.Sqlite(folder), 1
         words = ["--program", str(program), "--log", self._base.log]

@@ -12,7 +12,8 @@ from seats import Line, spelled
 MOST_MESSAGE = 1 << 20  # bytes
 SLOW = 10.0  # seconds in which what was sent has to be taken
 GOODBYE = 0.1  # seconds that the other side has for ending a talk
-ENDINGS = frozenset((1000, 1001))  # codes of who leaves, and of a window that is closed
+GOING = 1001
+ENDINGS = frozenset((1000, GOING))  # codes of who leaves, and of a window that is closed
 
 
 class Bad(ValueError):
@@ -83,6 +84,10 @@ class Wires(set[Wire]):
     @property
     def waiting(self) -> int:
         return sum(wire.inward + wire.outward for wire in self)
+
+    async def close(self) -> None:
+        """The server ends; whoever is here may come to it again."""
+        await asyncio.gather(*(wire.socket.close(code=GOING) for wire in self if not wire.socket.closed), return_exceptions=True)
 
     async def watch(self) -> None:
         """Ends those that don't read, and where too much waits those for which most does."""

@@ -44,8 +44,9 @@ class Service {
 
   async start() {
     const server = fileURLToPath(new URL("../server.py", import.meta.url));
-    const words = ["--listen", this.address, "--log", join(this.#folder, "pages.sqlite"), "--program", program, "--turn", "0.2", "--cut", "6000", "--quiet", "0.3"];
-    this.#process = spawn("/usr/bin/python3", [server, ...words], { stdio: ["ignore", "pipe", "inherit"] });
+    const words = ["--listen", this.address, "--log", join(this.#folder, "pages.sqlite"), "--program", program];
+    const busy = ["--turn", "0.2", "--cut", "6000", "--quiet", "0.3"];
+    this.#process = spawn("/usr/bin/python3", [server, ...words, ...busy], { stdio: ["ignore", "pipe", "inherit"] });
     await once(this.#process.stdout, "data");
   }
 

@@ -17,7 +17,8 @@ const module = await compile().catch((error) => status(`No program here: ${error
 const key = crypto.getRandomValues(new Uint8Array(24)).reduce((text, byte) => text + byte.toString(16).padStart(2, "0"), "");
 const name = query.has("name") ? `?name=${encodeURIComponent(query.get("name"))}` : "";
 const view = new View(host);
-const writer = new Writer(`${location.origin.replace("http", "ws")}/pages/${encodeURIComponent(page)}/edit${name}`, key, () => new World(module), {
+const socket = `${location.origin.replace("http", "ws")}/pages/${encodeURIComponent(page)}/edit${name}`;
+const writer = new Writer(socket, key, () => new World(module), {
   changed() {
     view.draw(writer.items);
     place();
@@ -53,7 +54,8 @@ function showCarets() {
 
 function mark(who, box, corner, title = null) {
   const dom = tag(who, "");
-  Object.assign(dom.style, { left: `${box.left - corner.left}px`, top: `${box.top - corner.top}px`, width: `${box.width}px`, height: `${box.height}px` });
+  const [left, top, width, height] = [box.left - corner.left, box.top - corner.top, box.width, box.height].map((size) => `${size}px`);
+  Object.assign(dom.style, { left, top, width, height });
   if (title !== null) [dom.className, dom.title] = ["focus", title];
   return dom;
 }

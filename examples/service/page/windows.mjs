@@ -1,4 +1,4 @@
-// node --experimental-websocket windows.mjs CHROMIUM ADDRESS: two windows on the page "windows" of the service at this address, with real keys.
+// node --experimental-websocket windows.mjs CHROMIUM ADDRESS: two windows on one page of the service at this address, with real keys.
 import { Browser, until } from "../../editor/browser.mjs";
 
 const [chromium, address] = process.argv.slice(2);
