@@ -4,6 +4,7 @@ adversary would."""
 from __future__ import annotations
 
 import argparse
+import json
 import shutil
 import subprocess
 import sys
@@ -17,7 +18,8 @@ if find_spec("aiohttp") is None:
     sys.exit(0)
 
 from judge import Wrong
-from programs import PROGRAM
+from programs import PROGRAM, ROOT
+from seats import CHANGES, CLOSED, READS
 from siege import attack
 from strangers import check_strangers
 from trial import Trial
@@ -37,6 +39,14 @@ def trial(engine: str, given: argparse.Namespace) -> None:
         it.stop()
     shutil.rmtree(folder)
     it.report(given, tolds)
+
+
+def know_commands() -> None:
+    """The service knows every command of the program, and no other."""
+    table = {row["do"] for row in json.loads((ROOT / "clients" / "commands.json").read_text())}
+    known = READS | CHANGES | CLOSED
+    if known != table:
+        raise SystemExit(f"service: seats.py and clients/commands.json differ: {known ^ table}")
 
 
 def no_postgres() -> str:
@@ -60,6 +70,7 @@ def main() -> None:
     if subprocess.run([given.program, "run"], stdin=subprocess.DEVNULL, stdout=subprocess.DEVNULL).returncode:
         print("skipped: no program")
         return
+    know_commands()
     for engine in (given.engine,) if given.engine else ("sqlite", "postgres"):
         if engine == "postgres" and (missing := no_postgres()):
             print(f"skipped: no {missing}")

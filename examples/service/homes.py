@@ -160,7 +160,7 @@ class Homes:
                 return await here(await self._own(name, handed or tried > 2))
             except Elsewhere as other:
                 if handed:
-                    raise web.HTTPServiceUnavailable(text="moved\n")
+                    raise web.HTTPServiceUnavailable(text="moved\n") from other
                 with contextlib.suppress(ClientError, OSError, asyncio.TimeoutError):
                     return await there(other.address)
                 if self._elsewhere.get(name) == other.address:

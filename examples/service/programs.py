@@ -11,7 +11,7 @@ sys.path.append(str(ROOT / "clients" / "python"))
 
 from vemodel import AsyncProgram, Ended, Interrupted  # noqa: E402
 
-__all__ = ["PROGRAM", "Core", "Crowded", "Ended", "Programs"]
+__all__ = ["PROGRAM", "ROOT", "Core", "Crowded", "Ended", "Programs"]
 
 TURN = 10.0  # seconds for the lines of a turn
 LOG = 300.0  # for those of a log

@@ -22,13 +22,14 @@ SITES = 8
 # The last site is of who only reads: nothing is sent from it, and it takes whatever is served, so it shows the committed
 # page. The others are seats.
 VIEW = SITES - 1
-# Commands that change nothing, so that they aren't in a log, and those that a client may have put there. The others are
-# the service's: `open`, and `serve`, which follows each accepted `send` at once. What `changes` tells goes by what it told
-# before, which no log says.
+# Commands that change nothing, so that they aren't in a log, those that a client may have put there, and those that no
+# client has: `serve` follows each accepted `send` at once, and what `changes` tells goes by what it told before, which no
+# log says.
 READS = frozenset("html data tree at near refs caret grid".split())
 CHANGES = frozenset(
     "text remove split mark unmark wrap convert attr row_in row_out col_in col_out indent outdent insert apply batch undo redo "
     "select move type erase send take revoke".split())
+CLOSED = frozenset("open serve changes".split())
 # How many entries more are pending at a site after a command that isn't here: one.
 ENTRIES = {"undo": -1, "redo": 1, "select": 0, "move": 0, "send": 0}
 UNANSWERED = 100  # lines of one writer that may be under way; of older ones the answers are forgotten
