@@ -67,6 +67,13 @@ class Server:
         return resident(self._process.pid)
 
     @property
+    def seconds(self) -> float:
+        """Of a processor that its process has taken."""
+        assert self._process is not None
+        user, system = Path(f"/proc/{self._process.pid}/stat").read_text().rpartition(") ")[2].split()[11:13]
+        return (int(user) + int(system)) / os.sysconf("SC_CLK_TCK")
+
+    @property
     def memory_of_programs(self) -> int:
         assert self._process is not None
         children = Path(f"/proc/{self._process.pid}/task").glob("*/children")

@@ -175,8 +175,12 @@ def measure(given: argparse.Namespace, folder: Path) -> None:
         with ProcessPoolExecutor(WORKERS, get_context("spawn")) as pool:
             parts = [pool.submit(work, server.address, readers[n::WORKERS], writers[n::WORKERS], given.pause, begin,
                                  begin + given.seconds) for n in range(WORKERS)]
+            time.sleep(max(0, begin - time.monotonic()))
+            spent = -server.seconds
             own, programs = watched(server, parts)
+            spent += server.seconds
             report(given, [part.result() for part in parts], own, programs)
+            print(f"load: the server took {spent / given.seconds:.2f} of a processor")
     finally:
         server.end()
 

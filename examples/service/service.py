@@ -16,7 +16,7 @@ from log import Gone, Lost, Span
 from page import Page
 from programs import Ended
 from seats import SITES, Seats, digest, spelled
-from talk import Talk, send_lines, together
+from talk import Talk, together
 from wire import GOODBYE, Bad, Wire, Wires, number_of, said
 from world import Shared
 
@@ -157,7 +157,7 @@ class Service:
         name, span, number = await self._span(request)
         async with self._wire(request) as wire:
             with self._homes.following(name, span) as feed:
-                await together(send_lines(feed, number, wire), listen(wire))
+                await together(feed.follow(number, wire), listen(wire))
         return wire.socket
 
     async def edit(self, request: web.Request) -> web.WebSocketResponse:
@@ -208,7 +208,7 @@ class Service:
             span = Span(entered["open"], entered["next"])
             talk = Talk(page, wire, guest, visitor.writes(page.name))
             with self._homes.following(page.name, span) as feed:
-                lines = [] if number is None else [send_lines(feed, number if number <= span.next else span.first, wire)]
+                lines = [] if number is None else [feed.follow(number if number <= span.next else span.first, wire)]
                 await talk.run(*lines)
         finally:
             page.presence.go(guest)

@@ -6,7 +6,6 @@ from collections.abc import Callable, Coroutine
 from typing import Any
 
 from asks import Ask, Change, Request, Rise, Sit
-from feed import Feed
 from page import Page
 from presence import Guest
 from seats import CHANGES, READS, UNANSWERED, Line
@@ -114,13 +113,6 @@ async def together(*parts: Coroutine[Any, Any, None]) -> None:
     for fault in ended:
         if isinstance(fault, Exception):
             raise fault
-
-
-async def send_lines(feed: Feed, number: int, wire: Wire) -> None:
-    """The page's lines from a number on, as they come."""
-    while True:
-        number, text = await feed.more(number)
-        await wire.send(text)
 
 
 def told(answer: Line) -> asyncio.Future[Line]:

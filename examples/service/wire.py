@@ -47,6 +47,11 @@ class Wire:
             self._sending -= 1
             self._since = asyncio.get_running_loop().time()
 
+    def write(self, frame: bytes) -> None:
+        """A message that was framed before, at once; `outward` says how much of it has still to be taken."""
+        if self._transport is not None and not self._transport.is_closing():
+            self._transport.write(frame)
+
     async def tell(self, told: Line) -> None:
         await self.send(spelled(told))
 
@@ -105,6 +110,16 @@ class Wires(set[Wire]):
                 if waiting <= self._most:
                     break
             print("too much waits: connections were ended", file=sys.stderr, flush=True)
+
+
+def framed(text: str) -> bytes:
+    """A text as a server's WebSocket sends it."""
+    body = text.encode()
+    if len(body) < 126:
+        return bytes((0x81, len(body))) + body
+    if len(body) < 1 << 16:
+        return b"\x81\x7e" + len(body).to_bytes(2, "big") + body
+    return b"\x81\x7f" + len(body).to_bytes(8, "big") + body
 
 
 def said(text: str) -> Line:
