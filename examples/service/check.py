@@ -20,7 +20,7 @@ if find_spec("aiohttp") is None:
 from judge import Wrong
 from programs import PROGRAM, ROOT
 from seats import CHANGES, CLOSED, READS
-from siege import attack
+from siege import attack, attack_postgres
 from strangers import check_strangers
 from trial import Trial
 from windows import check_windows
@@ -76,8 +76,9 @@ def main() -> None:
             print(f"skipped: no {missing}")
             continue
         trial(engine, given)
+    more = [] if no_postgres() or given.engine == "sqlite" else [attack_postgres]
     with ThreadPoolExecutor() as pool:
-        parts = [pool.submit(part, given.program) for part in (attack, check_strangers, check_windows)]
+        parts = [pool.submit(part, given.program) for part in (attack, check_strangers, check_windows, *more)]
     for part in parts:
         fault = part.exception()
         if fault is not None:

@@ -6,7 +6,6 @@ import asyncio
 import json
 import socket
 import tempfile
-import time
 from collections.abc import Iterator
 from contextlib import contextmanager
 from pathlib import Path
@@ -175,36 +174,50 @@ async def ended(reader: asyncio.StreamReader) -> bool:
 
 
 @contextmanager
-def besieged(program: Path) -> Iterator[cluster.Server]:
-    with tempfile.TemporaryDirectory(prefix="vemodel-") as folder:
-        server = cluster.Server(Path(folder), [
-            "--program", str(program), "--log", str(Path(folder) / "pages.sqlite"), "--programs", str(PROGRAMS), "--memory",
-            str(512 * MEGABYTE), "--waiting", str(32 * MEGABYTE), "--page", str(2 * MEGABYTE), "--most", str(MOST)])
-        server.start()
-        try:
-            server.ready()
-            cluster.put(server.address, "calm", "<p>ab</p>")
-            yield server
-        except BaseException:
-            print(server.complaints)
-            raise
-        finally:
-            server.end()
+def besieged(program: Path, folder: Path, log: str) -> Iterator[cluster.Server]:
+    server = cluster.Server(folder, [
+        "--program", str(program), "--log", log, "--programs", str(PROGRAMS), "--memory", str(512 * MEGABYTE), "--waiting",
+        str(32 * MEGABYTE), "--page", str(2 * MEGABYTE), "--most", str(MOST)])
+    server.start()
+    try:
+        server.ready()
+        cluster.put(server.address, "calm", "<p>ab</p>")
+        yield server
+        sure(server.finish() == 0, "the server doesn't end when it is told to")
+    except BaseException:
+        print(server.complaints)
+        raise
+    finally:
+        server.end()
 
 
-async def _attack(server: cluster.Server) -> int:
+async def _attack(server: cluster.Server, with_sieges: bool) -> int:
     async with ClientSession() as session:
         bystander = await Bystander.on(session, server.address)
         adversary = Adversary(session, server.address, bystander)
         await adversary.say_everything()
         await adversary.ask_everything()
-        await Siege(session, server, bystander).all()
+        if with_sieges:
+            await Siege(session, server, bystander).all()
         return adversary.sent
 
 
 def attack(program: Path) -> None:
-    began = time.monotonic()
-    with besieged(program) as server:
-        sent = asyncio.run(_attack(server))
-        sure(server.finish() == 0, "the server doesn't end when it is told to")
-    print(f"service: adversary: ok: {sent} messages and 9 sieges, each answered, refused or ended; {time.monotonic() - began:.0f} s")
+    with tempfile.TemporaryDirectory(prefix="vemodel-") as folder:
+        with besieged(program, Path(folder), str(Path(folder) / "pages.sqlite")) as server:
+            sent = asyncio.run(_attack(server, with_sieges=True))
+    print(f"service: adversary: ok: {sent} messages and 9 sieges, each answered, refused or ended")
+
+
+def attack_postgres(program: Path) -> None:
+    from database import Postgres, programs
+    at = programs()
+    assert at is not None
+    with tempfile.TemporaryDirectory(prefix="vemodel-") as folder:
+        base = Postgres(at, Path(folder))
+        try:
+            with besieged(program, Path(folder), base.log) as server:
+                sent = asyncio.run(_attack(server, with_sieges=False))
+        finally:
+            base.stop()
+    print(f"service: adversary: ok: {sent} messages, over PostgreSQL")
