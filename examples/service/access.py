@@ -31,7 +31,7 @@ def everything(page: str) -> bool:
 
 def anyone(request: web.Request) -> Visitor:
     """For trying out: whoever reaches the service may do everything, under the name that the request says."""
-    return Visitor(request.query.get("name", "")[:MOST_NAME] or "somebody", everything, everything, True)
+    return Visitor(request.query.get("name", "somebody"), everything, everything, True)
 
 
 def access(named: str) -> Access:

@@ -108,9 +108,8 @@ class Feed:
         message = None if self._over else self._at_hand(follower.number)
         if message is None:
             return False
-        follower.wire.write(message.frame)
         follower.number = message.next
-        return message.next == self.next and follower.wire.outward == 0
+        return follower.wire.write(message.frame) and message.next == self.next
 
     async def _message(self, number: int) -> Message:
         """Lines from this number on, at least one. Where several want them, one reads for all."""

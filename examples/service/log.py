@@ -9,9 +9,13 @@ from __future__ import annotations
 
 import asyncio
 import contextlib
-from collections.abc import Awaitable, Callable, Sequence
+from collections.abc import Awaitable, Callable, Iterable, Sequence
 from dataclasses import dataclass
 from typing import Protocol
+
+
+SOME = 1000  # lines that one reading gives
+MUCH = 4 << 20  # and bytes, but that its last line may be longer
 
 
 class Lost(Exception):
@@ -88,6 +92,18 @@ class Log(Protocol):
         """Lines that other servers append to these pages are to be told of."""
 
     async def close(self) -> None: ...
+
+
+def some(rows: Iterable[tuple[int, str]]) -> list[tuple[int, str]]:
+    """As many of these lines as one reading gives."""
+    taken: list[tuple[int, str]] = []
+    size = 0
+    for number, line in rows:
+        taken.append((number, line))
+        size += len(line)
+        if len(taken) == SOME or size >= MUCH:
+            break
+    return taken
 
 
 class Commits:

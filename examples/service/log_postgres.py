@@ -24,10 +24,8 @@ import contextlib
 import hashlib
 from collections.abc import Callable
 
-from log import Batch, Commits, Elsewhere, Lost, Notice, Span
+from log import MUCH, SOME, Batch, Commits, Elsewhere, Lost, Notice, Span
 from session_postgres import SERVERS, Session, Sessions
-
-SOME = 1000  # lines that one reading gives
 
 # The update is the fence: it finds the row only where the page is ours and its next number is the one that we think.
 APPEND = """
@@ -41,6 +39,13 @@ kept AS (
     INSERT INTO lines SELECT page, number, line
     FROM unnest(%(of)s::text[], %(at)s::bigint[], %(lines)s::text[]) AS line(page, number, line) JOIN fence USING (page))
 SELECT page FROM fence
+"""
+
+READ = """
+SELECT number, line FROM (
+    SELECT number, line, sum(length(line)) OVER (ORDER BY number) - length(line) AS before
+    FROM lines WHERE page = %s AND number >= %s ORDER BY number LIMIT %s) AS line
+WHERE before < %s ORDER BY number
 """
 
 
@@ -148,8 +153,7 @@ class PostgresLog:
 
     async def read(self, page: str, number: int) -> list[tuple[int, str]]:
         async def work(session: Session) -> list[tuple[int, str]]:
-            rows = await session.reader.execute(
-                "SELECT number, line FROM lines WHERE page = %s AND number >= %s ORDER BY number LIMIT %s", (page, number, SOME))
+            rows = await session.reader.execute(READ, (page, number, SOME, MUCH))
             return [(row[0], row[1]) for row in await rows.fetchall()]
         return await self._do(work)
 

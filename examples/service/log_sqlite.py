@@ -13,13 +13,12 @@ from concurrent.futures import ThreadPoolExecutor
 from pathlib import Path
 from typing import TypeVar
 
-from log import Batch, Commits, Lost, Span
+from log import Batch, Commits, Lost, Span, some
 
 TABLES = """
 CREATE TABLE IF NOT EXISTS pages (page TEXT PRIMARY KEY, first INTEGER NOT NULL, next INTEGER NOT NULL) WITHOUT ROWID;
 CREATE TABLE IF NOT EXISTS lines (page TEXT, number INTEGER, line TEXT NOT NULL, PRIMARY KEY (page, number)) WITHOUT ROWID;
 """
-SOME = 1000  # lines that one reading gives
 
 T = TypeVar("T")
 
@@ -111,9 +110,8 @@ class SqliteLog:
 
     async def read(self, page: str, number: int) -> list[tuple[int, str]]:
         def call() -> list[tuple[int, str]]:
-            return self._base.execute(
-                "SELECT number, line FROM lines WHERE page = ? AND number >= ? ORDER BY number LIMIT ?", (page, number, SOME)
-            ).fetchall()
+            return some(self._base.execute(
+                "SELECT number, line FROM lines WHERE page = ? AND number >= ? ORDER BY number", (page, number)))
         return await self._do(call)
 
     def watch(self, pages: set[str]) -> None:

@@ -3,6 +3,7 @@ from __future__ import annotations
 
 import asyncio
 import contextlib
+import sys
 from collections import deque
 from collections.abc import Callable
 
@@ -53,8 +54,7 @@ class Page:
         next one."""
         answer: asyncio.Future[Line] = asyncio.get_running_loop().create_future()
         if self.over.is_set():
-            answer.set_exception(Lost(self.name))
-            answer.exception()
+            fail(answer, self.name)
         else:
             self._requests.append((request, answer))
             self._wake.set()
@@ -105,14 +105,15 @@ class Page:
                     await self._turn(taken)
                 taken = []
                 await self._seat_them()
-        except (Lost, Strange, Crowded):
+        except (Lost, Crowded):
             pass
+        except Strange as fault:
+            print(fault, file=sys.stderr, flush=True)
         finally:
             self.over.set()
             for _, answer in (*taken, *self._requests, *(queued for queued, _ in self._standing)):
                 if not answer.done():
-                    answer.set_exception(Lost(self.name))
-                    answer.exception()
+                    fail(answer, self.name)
             self._requests.clear()
             self._standing.clear()
             self._gone(self)
@@ -238,3 +239,8 @@ class Page:
         except Ended:
             await self._world.renew()
             self._tidied = now + AGAIN
+
+
+def fail(answer: asyncio.Future[Line], name: str) -> None:
+    answer.set_exception(Lost(name))
+    answer.exception()  # whoever asked may be gone, and then nobody looks at it

@@ -5,7 +5,6 @@ from __future__ import annotations
 import argparse
 import asyncio
 import contextlib
-import math
 import signal
 from collections.abc import Awaitable, Callable
 from pathlib import Path
@@ -20,11 +19,10 @@ from log import Log, Lost
 from log_sqlite import SqliteLog
 from programs import PROGRAM, Crowded, Programs
 from service import Service
+from watch import Watch
 from window import Window
 from wire import Bad, Wires
 from world import Shared, Strange
-
-REQUEST = 10.0  # seconds in which a connection has to send its first request
 
 Handler = Callable[[web.Request], Awaitable[web.StreamResponse]]
 
@@ -32,14 +30,12 @@ Handler = Callable[[web.Request], Awaitable[web.StreamResponse]]
 class Requests:
     """What stands before every request: the gate, who it is of, and what faults become."""
 
-    def __init__(self, gate: Gate, allowed: Access) -> None:
-        self._gate, self._allowed = gate, allowed
-        # Since when each connection was seen; one that has sent a request has all the time.
-        self._seen: dict[web.RequestHandler, float] = {}
+    def __init__(self, gate: Gate, allowed: Access, watch: Watch) -> None:
+        self._gate, self._allowed, self._watch = gate, allowed, watch
 
     @web.middleware
     async def answer(self, request: web.Request, handler: Handler) -> web.StreamResponse:
-        self._seen[request.protocol] = math.inf
+        self._watch.heard(request.protocol)
         self._gate.check(request)
         visitor = self._allowed(request)
         if visitor is None:
@@ -55,15 +51,6 @@ class Requests:
             raise web.HTTPBadRequest(text=f"{fault}\n") from fault
         except Strange as fault:
             raise web.HTTPInternalServerError(text=f"{fault}\n") from fault
-
-    async def hurry(self, server: web.Server) -> None:
-        """Ends connections that send half a request, and no more."""
-        while True:
-            await asyncio.sleep(REQUEST / 4)
-            now = asyncio.get_running_loop().time()
-            self._seen = {connection: self._seen.get(connection, now) for connection in server.connections}
-            for connection in [connection for connection, seen in self._seen.items() if now - seen > REQUEST]:
-                connection.force_close()
 
 
 async def safe(request: web.Request, answer: web.StreamResponse) -> None:
@@ -93,7 +80,8 @@ async def serve(given: argparse.Namespace) -> None:
     loop.set_exception_handler(unless_broken)
     for number in signal.SIGTERM, signal.SIGINT:
         loop.add_signal_handler(number, stop.set)
-    homes, wires = Homes(), Wires(given.waiting)
+    homes, wires = Homes(), Wires()
+    watch = Watch(wires, given.waiting)
     log = engine(given, homes)
     programs = Programs(given.program, given.programs, given.memory, homes.spare)
     limits = Limits(given.cut, given.most, given.quiet, given.absent, given.turn)
@@ -102,8 +90,8 @@ async def serve(given: argparse.Namespace) -> None:
         homes.begin(shared)
         await log.open()
         stack.push_async_callback(log.close)
-        service = Service(given.listen, shared, homes, wires, await stack.enter_async_context(ClientSession()))
-        requests = Requests(Gate(given.listen, given.host, given.origin), access(given.access))
+        service = Service(given.listen, shared, homes, wires, watch, await stack.enter_async_context(ClientSession()))
+        requests = Requests(Gate(given.listen, given.host, given.origin), access(given.access), watch)
         app = web.Application(client_max_size=given.page, middlewares=[requests.answer])
         app.add_routes([*service.routes(), *Window().routes()])
         app.on_response_prepare.append(safe)
@@ -116,7 +104,7 @@ async def serve(given: argparse.Namespace) -> None:
         print(f"http://{given.listen}", flush=True)
         server = runner.server
         assert server is not None
-        tasks = [asyncio.create_task(part) for part in (homes.sweep(), wires.watch(), requests.hurry(server))]
+        tasks = [asyncio.create_task(part) for part in (homes.sweep(), watch.run(server))]
         await stop.wait()
         await site.stop()
         await homes.finish()

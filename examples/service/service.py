@@ -9,7 +9,7 @@ from urllib.parse import unquote
 
 from aiohttp import ClientError, ClientSession, ClientTimeout, ClientWebSocketResponse, WSMsgType, web
 
-from access import Visitor
+from access import MOST_NAME, Visitor
 from asks import Enter, Rise, Show
 from homes import Homes
 from log import Gone, Lost, Span
@@ -17,6 +17,7 @@ from page import Page
 from programs import Ended
 from seats import SITES, Seats, digest, spelled
 from talk import Talk, together
+from watch import Watch
 from wire import GOODBYE, Bad, Wire, Wires, number_of, said
 from world import Shared
 
@@ -30,8 +31,8 @@ AGAIN = 1012  # the code by which a connection ends where its client is to conne
 
 
 class Service:
-    def __init__(self, address: str, shared: Shared, homes: Homes, wires: Wires, peers: ClientSession) -> None:
-        self._address, self._shared, self._homes, self._wires, self._peers = address, shared, homes, wires, peers
+    def __init__(self, address: str, shared: Shared, homes: Homes, wires: Wires, watch: Watch, peers: ClientSession) -> None:
+        self._address, self._shared, self._homes, self._wires, self._watch, self._peers = address, shared, homes, wires, watch, peers
 
     def routes(self) -> list[web.RouteDef]:
         return [
@@ -51,7 +52,10 @@ class Service:
         """The pages that the visitor may read, by name, after one and so many."""
         visitor = visitor_of(request)
         most = min(number_of(request.query.get("most"), SOME), MOST_SOME)
-        found = await self._shared.log.names(request.query.get("after", ""), most)
+        after = request.query.get("after", "")
+        if not after.isprintable():
+            raise Bad("no name")
+        found = await self._shared.log.names(after, most)
         more = {"next": found[-1]} if len(found) == most and found else {}
         return web.json_response({"pages": [name for name in found if visitor.reads(name)], **more})
 
@@ -112,7 +116,7 @@ class Service:
         told = {
             "pages": len(pages), "programs": self._shared.programs.running, "connections": len(self._wires),
             "lines_total": self._shared.lines, "bytes_total": self._shared.bytes,
-            "waiting": sum(page.waiting for page in pages), "waiting_bytes": self._wires.waiting,
+            "waiting": sum(page.waiting for page in pages), "waiting_bytes": self._watch.waiting,
             "log_bytes": sum(page.log_bytes for page in pages),
         }
         return web.Response(text="".join(f"vemodel_{name} {value}\n" for name, value in told.items()))
@@ -201,10 +205,11 @@ class Service:
             return
         holder = digest(key)
         entered = await page.put(Enter(holder))
-        guest = page.presence.come(visitor.name, holder)
+        name = "".join(filter(str.isprintable, visitor.name))[:MOST_NAME]
+        guest = page.presence.come(name, holder)
         page.seating.came(holder)
         try:
-            await wire.tell({**entered, "who": guest.who, "name": visitor.name, "holder": holder, "server": self._address})
+            await wire.tell({**entered, "who": guest.who, "name": name, "holder": holder, "server": self._address})
             span = Span(entered["open"], entered["next"])
             talk = Talk(page, wire, guest, visitor.writes(page.name))
             with self._homes.following(page.name, span) as feed:

@@ -2,7 +2,7 @@
 from __future__ import annotations
 
 import asyncio
-from collections.abc import Callable, Coroutine
+from collections.abc import Coroutine
 from typing import Any
 
 from asks import Ask, Change, Request, Rise, Sit
@@ -30,35 +30,33 @@ class Talk:
 
     async def _listen(self) -> None:
         while True:
+            name: Line = {}  # what names the answer: a line's number, or whatever the client puts into `ask`
             try:
                 text = await self._wire.hear()
                 if text is None:
                     return
                 message = said(text)
                 name = {which: message[which] for which in ("n", "ask") if which in message}
-            except Bad as fault:
-                await self._put({}, 0, told({"error": "bad", "why": str(fault)}))
-                continue
-            try:
-                if "here" in message:
-                    self._page.presence.move(self._guest, selection_of(message["here"]))
-                    continue
-                request = self._request(message, len(text))
+                await self._take(message, name, len(text))
             except Bad as fault:
                 await self._put(name, 0, told({"error": "bad", "why": str(fault)}))
-                continue
-            if request is None:
-                await self._put(name, 0, told({"error": "forbidden"}))
-                continue
-            await self._put(name, len(text), self._page.put(request))
-            if isinstance(request, Ask):
-                await self._until(lambda: self._wire.inward == 0)
 
-    def _request(self, message: Line, size: int) -> Request | None:
-        """What the message asks; None where its sender mayn't."""
+    async def _take(self, message: Line, name: Line, size: int) -> None:
+        if "here" in message:
+            self._page.presence.move(self._guest, selection_of(message["here"]))
+            return
+        request = self._request(message, size)
+        if not self._may_write and isinstance(request, (Sit, Change)):
+            await self._put(name, 0, told({"error": "forbidden"}))
+            return
+        await self._put(name, size, self._page.put(request))
+        if isinstance(request, Ask):
+            await self._until_answered()
+
+    def _request(self, message: Line, size: int) -> Request:
         holder = self._guest.holder
         if "sit" in message:
-            return Sit(holder) if self._may_write else None
+            return Sit(holder)
         if "rise" in message:
             return Rise(holder)
         line = message.get("line")
@@ -69,16 +67,16 @@ class Talk:
             return Ask(holder, line, size)
         if do not in CHANGES:
             raise Bad("no command of a client")
-        change = Change(holder, number_of(message.get("n")), number_of(message.get("since")), line, size)
-        return change if self._may_write else None
+        return Change(holder, number_of(message.get("n")), number_of(message.get("since")), line, size)
 
     async def _put(self, name: Line, size: int, answer: asyncio.Future[Line]) -> None:
         self._wire.inward += size
         await self._asked.put((name, size, answer))
-        await self._until(lambda: self._wire.inward <= MOST_WAITING)
+        await self._until_answered(MOST_WAITING)
 
-    async def _until(self, holds: Callable[[], bool]) -> None:
-        while not holds():
+    async def _until_answered(self, but: int = 0) -> None:
+        """Until no more than so many bytes of messages wait for their answers."""
+        while self._wire.inward > but:
             self._answered.clear()
             await self._answered.wait()
 
@@ -94,6 +92,7 @@ class Talk:
 
     async def _page_ended(self) -> None:
         await self._page.over.wait()
+        await self._until_answered()
 
     async def _tell_news(self) -> None:
         while True:

@@ -23,7 +23,7 @@ from typing import Any
 
 from aiohttp import web
 
-from access import MOST_NAME, Visitor
+from access import Visitor
 
 
 def signed(key: bytes, claims: dict[str, Any]) -> str:
@@ -58,7 +58,7 @@ def visitor(request: web.Request) -> Visitor | None:
     claims = opened(the_key(), token, time.time())
     if claims is None:
         return None
-    return Visitor(claims["name"][:MOST_NAME], partial(matches, claims["read"]), partial(matches, claims["write"]),
+    return Visitor(claims["name"], partial(matches, claims["read"]), partial(matches, claims["write"]),
                    claims.get("operates", False))
 
 

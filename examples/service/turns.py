@@ -16,7 +16,7 @@ Queued = tuple[Request, "asyncio.Future[Line]"]
 @dataclass(frozen=True)
 class Part:
     """A request of a turn, with what is known of it before, or else where its line stands among those that are run."""
-    request: Request
+    request: Ask | Change
     answer: asyncio.Future[Line]
     place: int
     known: Line | None = None
@@ -82,10 +82,10 @@ class Turn:
         return [(part.answer, self._told(part, number, replies)) for part in self._parts]
 
     def _told(self, part: Part, number: int, replies: list[str]) -> Line:
+        if part.known is not None:
+            return part.known
         request = part.request
-        writer = self._world.seats.writer(request.holder) if isinstance(request, (Ask, Change)) else None
-        if part.known is not None or writer is None:
-            return part.known or {}
+        writer = self._world.seats.writer(request.holder)
         if isinstance(request, Change):
             return writer.answers.get(request.n) or {"n": request.n, "reply": replies[part.place]}
         if writer.site is not None:
