@@ -40,6 +40,10 @@ async function edited(browser) {
   await shows([ada, ben], "Xbcd!\nef", "<p>Xbcd!</p><p>ef</p>");
   await until("each sees the other's name", async () => (await ada.value('document.querySelector("#people").textContent')) === "Ben");
   await until("each sees the other's caret", async () => (await ben.value('document.querySelector("#carets .focus")?.title')) === "Ada");
+  await until("it stands in its line", () => ben.value(`(() => {
+    const [caret, line] = ["#carets .focus", "#page > div:last-child"].map((what) => document.querySelector(what).getBoundingClientRect());
+    return caret.top >= line.top - 2 && caret.bottom <= line.bottom + 2;
+  })()`));
   sure((await ada.value('document.querySelector("#status").textContent')) === "", "a window complains");
 }
 
