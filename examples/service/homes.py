@@ -34,20 +34,13 @@ class Homes:
 
     # Pages of this server
 
-    async def _own(self, name: str, here: bool) -> Page:
-        """The page, which this server is the one to write. Raises `Elsewhere` where it isn't."""
+    async def page(self, name: str, here: bool) -> Page:
+        """The page, which this server is the one to write. Raises `Elsewhere` where it isn't; `here` means that it is to be
+        unless another server lives that has it."""
         async with self._door(name):
             if name in self.pages:
                 return self.pages[name]
-            if name in self._elsewhere and not here:
-                raise Elsewhere(self._elsewhere[name])
-            try:
-                span = await self._shared.log.take(name, here)
-            except Elsewhere as other:
-                self._elsewhere[name] = other.address
-                raise
-            if span is None:
-                raise web.HTTPNotFound(text="no such page\n")
+            span = await self._take(name, here)
             page = Page(name, self._shared, self._feed(name, span), self._gone)
             try:
                 await page.open(span)
@@ -57,6 +50,18 @@ class Homes:
             self.pages[name] = page
             self._watch()
             return page
+
+    async def _take(self, name: str, here: bool) -> Span:
+        if name in self._elsewhere and not here:
+            raise Elsewhere(self._elsewhere[name])
+        try:
+            span = await self._shared.log.take(name, here)
+        except Elsewhere as other:
+            self._elsewhere[name] = other.address
+            raise
+        if span is None:
+            raise web.HTTPNotFound(text="no such page\n")
+        return span
 
     def _door(self, name: str) -> asyncio.Lock:
         """One opening or closing of a page at a time."""
@@ -75,11 +80,14 @@ class Homes:
         for page in list(self.pages.values()):
             page.give_up()
 
-    async def delete(self, page: Page) -> None:
-        async with self._door(page.name):
-            await page.close()
-            await self._shared.log.delete(page.name)
-            self.ended(page.name)
+    async def delete(self, name: str, here: bool) -> None:
+        """Also of a page that can't be opened."""
+        async with self._door(name):
+            if name in self.pages:
+                await self.pages[name].close()
+            await self._take(name, here)
+            await self._shared.log.delete(name)
+            self.ended(name)
 
     async def _leave(self, page: Page) -> None:
         async with self._door(page.name):
@@ -149,15 +157,15 @@ class Homes:
 
     # Pages of others
 
-    async def at_home(self, name: str, handed: bool, here: Callable[[Page], Awaitable[T]],
+    async def at_home(self, name: str, handed: bool, here: Callable[[bool], Awaitable[T]],
                       there: Callable[[str], Awaitable[T]]) -> T:
-        """Does one thing where the page is this server's, or another where it is that of this address. Looks again where
-        that server doesn't answer: it may have died, and then the page is free as soon as the database knows."""
+        """Does one thing at this server, or where that raises `Elsewhere` another by the server of that address. Looks again
+        where it doesn't answer: it may have died, and then the page is free as soon as the database knows."""
         until = asyncio.get_running_loop().time() + PATIENCE
         tried = 0
         while True:
             try:
-                return await here(await self._own(name, handed or tried > 2))
+                return await here(handed or tried > 2)
             except Elsewhere as other:
                 if handed:
                     raise web.HTTPServiceUnavailable(text="moved\n") from other

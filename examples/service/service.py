@@ -81,8 +81,8 @@ class Service:
         """The committed page."""
         name = named(request)
 
-        async def here(page: Page) -> web.Response:
-            told = await page.put(Show())
+        async def here(taken: bool) -> web.Response:
+            told = await (await self._homes.page(name, taken)).put(Show())
             if "error" in told:
                 raise web.HTTPInsufficientStorage(text=f"{told['why']}\n")
             return web.Response(text=json.loads(told["reply"][3:]), content_type="text/plain", charset="utf-8",
@@ -93,8 +93,8 @@ class Service:
     async def delete(self, request: web.Request) -> web.Response:
         name = named(request, write=True)
 
-        async def here(page: Page) -> web.Response:
-            await self._homes.delete(page)
+        async def here(taken: bool) -> web.Response:
+            await self._homes.delete(name, taken)
             return web.Response(status=204)
 
         return await self._at_home(request, name, here)
@@ -130,7 +130,7 @@ class Service:
         number = number_of(request.query.get("from"), span.first)
         return name, span, number if number <= span.next else span.first
 
-    async def _at_home(self, request: web.Request, name: str, here: Callable[[Page], Awaitable[web.Response]]) -> web.Response:
+    async def _at_home(self, request: web.Request, name: str, here: Callable[[bool], Awaitable[web.Response]]) -> web.Response:
         async def there(address: str) -> web.Response:
             async with self._peers.request(request.method, f"http://{address}{request.path_qs}", headers=handed_on(request),
                                            timeout=ClientTimeout(ANSWER)) as answer:
@@ -168,7 +168,8 @@ class Service:
         """Who writes. The page's own server hears it; any other one hands on what it hears."""
         name = named(request)
 
-        async def here(page: Page) -> web.WebSocketResponse:
+        async def here(taken: bool) -> web.WebSocketResponse:
+            page = await self._homes.page(name, taken)
             async with self._wire(request) as wire:
                 await self._hear(page, wire, visitor_of(request))
             return wire.socket

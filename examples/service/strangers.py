@@ -69,10 +69,27 @@ async def _talk(session: ClientSession, url: str) -> None:
             sure(wanted in told, f"{said} of who may read is answered {told}")
 
 
+async def _list(session: ClientSession, url: str) -> None:
+    """Names come by pages, and each sees those that it may read."""
+    writer = bearer(signed(KEY, {**ADA, "write": ["*"]}))
+    for name in "ABC":
+        async with session.put(f"{url}/pages/{name}", headers=writer, data=b"<p>x</p>"):
+            pass
+    for query, reads, wanted in (("", "*", {"pages": ["A", "B", "C", "Notes 2"]}),
+                                 ("?most=2", "*", {"pages": ["A", "B"], "next": "B"}),
+                                 ("?after=B&most=2", "*", {"pages": ["C", "Notes 2"], "next": "Notes 2"}),
+                                 ("?after=Notes%202", "*", {"pages": []}),
+                                 ("", "[AC]", {"pages": ["A", "C"]})):
+        async with session.get(f"{url}/pages{query}", headers=bearer(signed(KEY, {**ADA, "read": [reads]}))) as told:
+            listed = await told.json()
+        sure(listed == wanted, f"the pages{query} are {listed}")
+
+
 async def _all(url: str) -> None:
     async with ClientSession() as session:
         await _ask(session, url)
         await _talk(session, url)
+        await _list(session, url)
 
 
 def check_strangers(program: Path) -> None:

@@ -142,8 +142,9 @@ export class Writer {
     if (this.#welcome) this.#welcome.isWaiting = false;
     for (const intent of this.#intents.splice(0)) {
       const made = intent(this);
-      if (!made?.lines.every((line) => this.#do(line))) continue;
-      this.#show(made.selection);
+      if (!made) continue;
+      if (made.lines.every((line) => this.#do(line))) this.#show(made.selection);
+      else this.#heard.notice("This can't be done here");
     }
     this.#meetTheOthers();
     this.#show();
@@ -159,6 +160,7 @@ export class Writer {
   #refused({ n, error, why }) {
     if (["cut", "seat", "passed"].includes(error)) return;
     this.#heard.notice(`Not saved: ${why ?? error}`);
+    if (this.#welcome) this.#welcome.isWaiting = false;
     if (n === undefined) this.#intents = [];
     else this.#replica.rebuild();
     this.#show();
@@ -168,11 +170,14 @@ export class Writer {
   #show(wanted) {
     const replica = this.#replica, drawn = `${replica.worlds} ${replica.shown}`;
     const isWhole = drawn !== this.#drawn;
-    const { patches, came } = isWhole ? { patches: replica.changes() && [], came: [] } : replica.changes();
+    const told = replica.changes(); // from here on it tells what comes after what is drawn now
+    const { patches, came } = isWhole ? { patches: [], came: [] } : told;
     if (!isWhole && patches.length === 0) return;
     this.#drawn = drawn;
     if (isWhole) this.items = single(JSON.parse(replica.ask({ do: "data" }).slice(3)));
-    for (const [at, removed, inserted] of patches) this.items.splice(at, removed, ...Array(inserted));
+    for (const [at, removed, inserted] of patches) {
+      this.items = this.items.slice(0, at).concat(Array(inserted), this.items.slice(at + removed));
+    }
     for (const [at, items] of came) single(items).forEach((item, k) => (this.items[at + k] = item));
     const moved = (at) => Math.min(patches.reduce(mapped, at), this.items.length);
     this.selection = wanted ?? this.selection.map(moved);
