@@ -65,7 +65,7 @@ async def _talk(session: ClientSession, url: str) -> None:
                              ({"n": 1, "since": 1, "line": {"do": "send"}}, "forbidden"),
                              ({"ask": 1, "line": {"do": "html"}}, "<p>x</p>")):
             await socket.send_str(json.dumps(said))
-            told = await socket.receive_str(timeout=8)
+            told = await socket.receive_str(timeout=20)
             sure(wanted in told, f"{said} of who may read is answered {told}")
 
 

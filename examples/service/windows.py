@@ -9,7 +9,7 @@ from pathlib import Path
 
 import cluster
 from judge import Wrong
-from window import found_module
+from window import EDITOR, found_module
 
 PAGE = Path(__file__).with_name("page")
 NODE = (20, 10)  # the first version that has WebSockets
@@ -41,6 +41,10 @@ def check_windows(program: Path) -> None:
         try:
             server.ready()
             run("windows.mjs", chromium, server.address)
+            if (EDITOR / "session.js").exists():
+                run("editors.mjs", chromium, server.address)
+            else:
+                print("skipped: an editor whose windows run the log themselves")
         finally:
             server.end()
 
