@@ -60,7 +60,7 @@ class Feed:
         self._messages: dict[int, Message] = {}  # by the number that they begin with
         self._reading = asyncio.Lock()
         self._followers: set[Follower] = set()
-        self._sent = 0.0
+        self._earliest = 0.0  # when lines are sent next
         self._timer: asyncio.TimerHandle | None = None
 
     def put(self, number: int, lines: Sequence[str]) -> None:
@@ -75,7 +75,7 @@ class Feed:
             self.next = number
             if self._timer is None:
                 loop = asyncio.get_running_loop()
-                self._timer = loop.call_at(max(loop.time(), self._sent + GATHER), self._send)
+                self._timer = loop.call_at(max(loop.time(), self._earliest), self._send)
 
     def end(self) -> None:
         """The page was deleted."""
@@ -98,10 +98,14 @@ class Feed:
             number = follower.number
 
     def _send(self) -> None:
-        self._timer, self._sent = None, asyncio.get_running_loop().time()
+        """To all who follow. The longer it takes, the longer the server does other things before it sends again."""
+        began = asyncio.get_running_loop().time()
+        self._timer = None
         for follower in self._followers:
             if not follower.behind.done() and not self._send_to(follower):
                 follower.behind.set_result(None)
+        ended = asyncio.get_running_loop().time()
+        self._earliest = ended + max(GATHER, 2 * (ended - began))
 
     def _send_to(self, follower: Follower) -> bool:
         """Whether it has all lines then, and has taken them."""

@@ -49,15 +49,17 @@ class Service:
     # HTTP
 
     async def names(self, request: web.Request) -> web.Response:
-        """The pages that the visitor may read, by name, after one and so many."""
-        visitor = visitor_of(request)
-        most = min(number_of(request.query.get("most"), SOME), MOST_SOME)
+        """The pages that the visitor may read, by name, after one and so many. `next` is where there are more."""
+        most = max(1, min(number_of(request.query.get("most"), SOME), MOST_SOME))
         after = request.query.get("after", "")
         if not after.isprintable():
             raise Bad("no name")
-        found = await self._shared.log.names(after, most)
-        more = {"next": found[-1]} if len(found) == most and found else {}
-        return web.json_response({"pages": [name for name in found if visitor.reads(name)], **more})
+        found: list[str] = []
+        while len(found) <= most and (some := await self._shared.log.names(after, MOST_SOME)):
+            found += filter(visitor_of(request).reads, some)
+            after = some[-1]
+        more = {"next": found[most - 1]} if len(found) > most else {}
+        return web.json_response({"pages": found[:most], **more})
 
     async def create(self, request: web.Request) -> web.Response:
         name = named(request, write=True)

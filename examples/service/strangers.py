@@ -77,9 +77,9 @@ async def _list(session: ClientSession, url: str) -> None:
             pass
     for query, reads, wanted in (("", "*", {"pages": ["A", "B", "C", "Notes 2"]}),
                                  ("?most=2", "*", {"pages": ["A", "B"], "next": "B"}),
-                                 ("?after=B&most=2", "*", {"pages": ["C", "Notes 2"], "next": "Notes 2"}),
+                                 ("?after=B&most=2", "*", {"pages": ["C", "Notes 2"]}),
                                  ("?after=Notes%202", "*", {"pages": []}),
-                                 ("", "[AC]", {"pages": ["A", "C"]})):
+                                 ("?most=1", "[AC]", {"pages": ["A"], "next": "A"})):
         async with session.get(f"{url}/pages{query}", headers=bearer(signed(KEY, {**ADA, "read": [reads]}))) as told:
             listed = await told.json()
         sure(listed == wanted, f"the pages{query} are {listed}")

@@ -3,12 +3,14 @@ from __future__ import annotations
 
 import asyncio
 import json
+import random
 
 from aiohttp import WSMsgType, web
 
 from seats import Line, spelled
 
 MOST_MESSAGE = 1 << 20  # bytes
+HEARTBEAT = 40.0  # seconds until one that says nothing is asked whether it is there
 GOODBYE = 0.1  # seconds that the other side has for ending a talk
 GOING = 1001
 ENDINGS = frozenset((1000, GOING))  # codes of who leaves, and of a window that is closed
@@ -22,7 +24,9 @@ class Wire:
     """One connection. Whoever sends waits where the other side doesn't read."""
 
     def __init__(self) -> None:
-        self.socket = web.WebSocketResponse(heartbeat=20, timeout=GOODBYE, max_msg_size=MOST_MESSAGE, compress=False)
+        # Each is asked at another time whether it is there.
+        heartbeat = HEARTBEAT * random.uniform(0.5, 1)
+        self.socket = web.WebSocketResponse(heartbeat=heartbeat, timeout=GOODBYE, max_msg_size=MOST_MESSAGE, compress=False)
         self.inward = 0  # bytes of messages that weren't answered yet
         self.said_goodbye = False
         self.transport: asyncio.Transport | None = None
