@@ -1,11 +1,9 @@
 """Who may do what here: where a request may come from, and a function from it to what its sender may read and write."""
 from __future__ import annotations
 
-import sys
 from collections.abc import Callable, Iterable
 from dataclasses import dataclass
 from importlib import import_module
-from pathlib import Path
 from urllib.parse import urlsplit
 
 from aiohttp import web
@@ -37,7 +35,6 @@ def anyone(request: web.Request) -> Visitor:
 def access(named: str) -> Access:
     """The function that is named so, as `tokens:visitor`; its module may stand beside this one, or where Python looks."""
     module, _, function = named.partition(":")
-    sys.path.append(str(Path(__file__).parent))
     found: Access = getattr(import_module(module), function)
     return found
 
@@ -49,8 +46,9 @@ class Gate:
     def __init__(self, listen: str, hosts: Iterable[str], origins: Iterable[str]) -> None:
         """Hosts and origins beside the address itself, and pages that came from a host of this service."""
         _, _, port = listen.rpartition(":")
-        here = {listen, f"127.0.0.1:{port}", f"localhost:{port}", f"[::1]:{port}"}
-        self._hosts = here | {host.lower() for host in hosts}
+        here = {listen.lower(), f"127.0.0.1:{port}", f"localhost:{port}", f"[::1]:{port}"}
+        # A browser leaves the port out where it is that of HTTP.
+        self._hosts = here | {host.removesuffix(":80") for host in here} | {host.lower() for host in hosts}
         self._origins = frozenset(origins)
 
     def check(self, request: web.Request) -> None:

@@ -48,7 +48,8 @@ class Presence:
         self._last += 1
         guest = Guest(self._last, name, holder)
         self._guests[guest.who] = guest
-        for other in self._seen():
+        seen = self._seen()
+        for other in seen if guest in seen else ():
             if other is not guest:
                 guest.hear(other.who, other.shown)
         self._show(guest, guest.shown)
