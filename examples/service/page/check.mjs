@@ -146,4 +146,3 @@ try {
 } finally {
   await service.end();
 }
-process.exit(0);
