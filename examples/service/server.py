@@ -6,6 +6,7 @@ import argparse
 import asyncio
 import contextlib
 import signal
+import sys
 from collections.abc import Awaitable, Callable
 from pathlib import Path
 from typing import Any
@@ -23,6 +24,9 @@ from watch import Watch
 from window import Window
 from wire import Bad, Wires
 from world import Shared, Strange
+
+ANYONE = "access:anyone"
+LOOPBACK = ("127.0.0.1", "localhost", "[::1]")
 
 Handler = Callable[[web.Request], Awaitable[web.StreamResponse]]
 
@@ -73,35 +77,45 @@ def engine(given: argparse.Namespace, homes: Homes) -> Log:
     return PostgresLog(given.log, given.listen, given.history, homes.heard, homes.ended, homes.lost)
 
 
+def told_to_end() -> asyncio.Event:
+    """What the signals set by which programs are ended."""
+    stop = asyncio.Event()
+    for number in signal.SIGTERM, signal.SIGINT:
+        asyncio.get_running_loop().add_signal_handler(number, stop.set)
+    return stop
+
+
+def application(given: argparse.Namespace, service: Service, watch: Watch) -> web.Application:
+    requests = Requests(Gate(given.listen, given.host, given.origin), access(given.access), watch)
+    app = web.Application(client_max_size=given.page, middlewares=[requests.answer])
+    app.add_routes([*service.routes(), *Window().routes()])
+    app.on_response_prepare.append(safe)
+    return app
+
+
 async def serve(given: argparse.Namespace) -> None:
     """Until it is told to end; then what has come is answered."""
-    stop = asyncio.Event()
-    loop = asyncio.get_running_loop()
-    loop.set_exception_handler(unless_broken)
-    for number in signal.SIGTERM, signal.SIGINT:
-        loop.add_signal_handler(number, stop.set)
+    stop = told_to_end()
+    asyncio.get_running_loop().set_exception_handler(unless_broken)
     homes, wires = Homes(), Wires()
     watch = Watch(wires, given.waiting)
     log = engine(given, homes)
     programs = Programs(given.program, given.programs, given.memory, homes.spare)
-    limits = Limits(given.cut, given.most, given.quiet, given.absent, given.turn)
+    shared = Shared(log, programs, Limits(given.cut, given.most, given.quiet, given.absent, given.turn))
     async with contextlib.AsyncExitStack() as stack:
-        shared = Shared(log, programs, limits)
         homes.begin(shared)
         await log.open()
         stack.push_async_callback(log.close)
         service = Service(given.listen, shared, homes, wires, watch, await stack.enter_async_context(ClientSession()))
-        requests = Requests(Gate(given.listen, given.host, given.origin), access(given.access), watch)
-        app = web.Application(client_max_size=given.page, middlewares=[requests.answer])
-        app.add_routes([*service.routes(), *Window().routes()])
-        app.on_response_prepare.append(safe)
-        runner = web.AppRunner(app, access_log=None)
+        runner = web.AppRunner(application(given, service, watch), access_log=None)
         await runner.setup()
         stack.push_async_callback(runner.cleanup)
         host, _, port = given.listen.rpartition(":")
         site = web.TCPSite(runner, host, int(port), backlog=4096, shutdown_timeout=1)
         await site.start()
         print(f"http://{given.listen}", flush=True)
+        if given.access == ANYONE and host not in LOOPBACK:
+            print("whoever reaches this address may read, write and delete every page: see --access", file=sys.stderr, flush=True)
         server = runner.server
         assert server is not None
         tasks = [asyncio.create_task(part) for part in (homes.sweep(), watch.run(server))]
@@ -118,7 +132,7 @@ def words() -> argparse.ArgumentParser:
     known.add_argument("--listen", default="127.0.0.1:8080", metavar="HOST:PORT", help="where other servers reach this one, too")
     known.add_argument("--host", action="append", default=[], help="another name that requests may call it by")
     known.add_argument("--origin", action="append", default=[], help="from where pages of others may call it")
-    known.add_argument("--access", default="access:anyone", metavar="MODULE:FUNCTION", help="who may read and write what")
+    known.add_argument("--access", default=ANYONE, metavar="MODULE:FUNCTION", help="who may read and write what")
     known.add_argument("--log", default="pages.sqlite", help="a file of SQLite, or a database: postgresql://...")
     known.add_argument("--history", action="store_true", help="keep the lines before a cut")
     known.add_argument("--program", type=Path, default=PROGRAM)

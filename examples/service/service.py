@@ -15,7 +15,7 @@ from homes import Homes
 from log import Gone, Lost, Span
 from page import Page
 from programs import Ended
-from seats import SITES, Seats, digest, spelled
+from seats import SITES, Line, Seats, digest, spelled
 from talk import Talk, together
 from watch import Watch
 from wire import GOODBYE, Bad, Wire, Wires, number_of, said
@@ -198,15 +198,10 @@ class Service:
                 text = await wire.hear()
             if text is None:
                 return
-            hello = said(text)
-            key, start = hello.get("key"), hello.get("from")
-            if not isinstance(key, str) or len(key) < 16:
-                raise Bad("a key has 16 characters or more")
-            number = None if start is None else number_of(start)
+            holder, number = introduced(said(text))
         except Bad as fault:
             await wire.tell({"error": "bad", "why": str(fault)})
             return
-        holder = digest(key)
         entered = await page.put(Enter(holder))
         name = "".join(filter(str.isprintable, visitor.name))[:MOST_NAME]
         guest = page.presence.come(name, holder)
@@ -238,6 +233,14 @@ def named(request: web.Request, write: bool = False) -> str:
     if not (visitor.writes if write else visitor.reads)(name):
         raise web.HTTPForbidden(text="not yours to write\n" if write else "not yours to read\n")
     return name
+
+
+def introduced(hello: Line) -> tuple[str, int | None]:
+    """The digest of the key of who comes, and the number from which on it wants lines, if it does."""
+    key, start = hello.get("key"), hello.get("from")
+    if not isinstance(key, str) or len(key) < 16:
+        raise Bad("a key has 16 characters or more")
+    return digest(key), None if start is None else number_of(start)
 
 
 def handed_on(request: web.Request) -> dict[str, str]:
