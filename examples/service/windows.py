@@ -44,7 +44,7 @@ def check_windows(program: Path) -> None:
             if (EDITOR / "session.js").exists():
                 run("editors.mjs", chromium, server.address)
             else:
-                print("skipped: an editor whose windows run the log themselves")
+                print("skipped: no editor whose windows run the log themselves")
         finally:
             server.end()
 
