@@ -74,10 +74,15 @@ class Server:
         return (int(user) + int(system)) / os.sysconf("SC_CLK_TCK")
 
     @property
-    def memory_of_programs(self) -> int:
+    def programs(self) -> list[int]:
+        """The processes that it started."""
         assert self._process is not None
         children = Path(f"/proc/{self._process.pid}/task").glob("*/children")
-        return sum(resident(int(child)) for task in children for child in task.read_text().split())
+        return [int(child) for task in children for child in task.read_text().split()]
+
+    @property
+    def memory_of_programs(self) -> int:
+        return sum(map(resident, self.programs))
 
     @property
     def complaints(self) -> str:

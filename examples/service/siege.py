@@ -4,6 +4,8 @@ from __future__ import annotations
 
 import asyncio
 import json
+import os
+import signal
 import socket
 import tempfile
 from collections.abc import Iterator
@@ -43,7 +45,7 @@ class Siege:
     async def all(self) -> None:
         before = self._server.memory
         slow = [asyncio.create_task(part) for part in (self.half_a_request(), self.half_a_page(), self.reads_nothing())]
-        for part in self.hurries, self.wants_memory, self.visits, self.crowd, self.long_log, self.many_pages:
+        for part in (self.hurries, self.wants_memory, self.programs_end, self.visits, self.crowd, self.long_log, self.many_pages):
             await part()
             await self._bystander.unharmed(part.__name__)
         for task in slow:
@@ -113,6 +115,11 @@ class Siege:
         sure('"error":"ended"' in answer or '"reply"' in answer, f"a line that needs much memory is answered {answer[:200]!r}")
         page = cluster.get(self._server.address, "/pages/marks")
         sure(page.startswith("<p>xxx"), "a page is gone with a line that needed much memory")
+
+    async def programs_end(self) -> None:
+        """All programs are killed, as where the machine has no memory."""
+        for program in self._server.programs:
+            os.kill(program, signal.SIGKILL)
 
     async def visits(self) -> None:
         """Twelve come, sit down, and go."""
@@ -206,7 +213,7 @@ def attack(program: Path) -> None:
     with tempfile.TemporaryDirectory(prefix="vemodel-") as folder:
         with besieged(program, Path(folder), str(Path(folder) / "pages.sqlite")) as server:
             sent = asyncio.run(_attack(server, with_sieges=True))
-    print(f"service: adversary: ok: {sent} messages and 9 sieges, each answered, refused or ended")
+    print(f"service: adversary: ok: {sent} messages and 10 sieges, each answered, refused or ended")
 
 
 def attack_postgres(program: Path) -> None:
