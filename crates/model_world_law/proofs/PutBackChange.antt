@@ -216,9 +216,9 @@ put_back_stays opened items from to few some within can first =
           ∙ passes words_are_normal ops (normal_from from count last read (omega (arith, some)));
       t = ops_on done items;
       gives = ap (λ r. change_of items (elim r as (λ _. EditCommand) [
-            | Err origin ↦ change.NoOrigin origin
-            | Ok ops ↦ change.Apply ops
-          ])) whole
+        | Err origin ↦ change.NoOrigin origin
+        | Ok ops ↦ change.Apply ops
+      ])) whole
           ∙ ap (λ b. elim b as (λ _. Result Transaction Refusal) [
             | true ↦ Ok (ops_on done items)
             | false ↦ Err (BadLength (length items) (needs done))
