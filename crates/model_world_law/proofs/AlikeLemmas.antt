@@ -1,8 +1,5 @@
 -- A request in two sessions that have one site: one reply, and one member takes its place in both.
-use Rattle.std.proofs.Common.{◌≡◌, ◌≤◌, ℕ, zero, suc, nat_lt, Bool, true, false, not, ◌&&◌, ◌||◌, if◌then◌else◌, List, [], ◌∷◌, ◌++◌, length, take, map, slice_get, Option, Some, None, Result, Ok, Err, unwrap_or, refl, sym, ap, ◌∙◌, subst, arith}
-use Rattle.std.specs.Prelude.{IfSome, option_map}
-use Rattle.std.proofs.lemmas.Bool.{and_parts}
-use Rattle.ve_base.specs.Limits.{max_line}
+use Rattle.std.proofs.Common.{◌≡◌, ℕ, zero, suc, nat_lt, Bool, true, false, ◌||◌, if◌then◌else◌, List, [], ◌∷◌, ◌++◌, length, map, slice_get, Option, Some, None, Result, Ok, Err, unwrap_or, refl, sym, ap, ◌∙◌, subst}
 use Rattle.model_change.specs.Transaction.{Transaction}
 use Rattle.model_edit.specs.Causes.{TableCause}
 use Rattle.model_edit.specs.Grid.{Grid, grid}
@@ -12,31 +9,22 @@ use Rattle.model_edit.specs.Translate.{between}
 use Rattle.model_edit.specs.declared.selection.Dir.{Dir}
 use Rattle.model_edit.specs.declared.selection.Selection.{Selection}
 use Rattle.model_page.specs.PageItems.{Opened}
-use Rattle.model_site.specs.Entries.{Parcel, parcels}
-use Rattle.model_site.specs.Entries as entries
-use Rattle.model_site.specs.Live.{hinted, revocation}
-use Rattle.model_site.specs.Session.{Member, Session, SiteFeed, accepted_of, all_fed, clash_of, feed_for, put_member, serve_first, serve_one, served_as, site_after, take_first, with_member}
-use Rattle.model_site.specs.Site.{Site, Submission, hinted_entries, pending, redo, revoke_by, revoke_entry, send, undo, with_entry, with_selection, with_told}
+use Rattle.model_site.specs.Live.{revocation}
+use Rattle.model_site.specs.Session.{Member, Session, SiteFeed, put_member, site_after, take_first, with_member}
+use Rattle.model_site.specs.Site.{Site, Submission, hinted_entries, redo, revoke_by, revoke_entry, send, undo, with_entry, with_selection, with_told}
 use Rattle.model_site_law.proofs.CountLemmas.{length-put}
 use Rattle.model_world.specs.declared.edit_command.EditCommand.TheVariants as change
 use Rattle.model_world.specs.declared.command.Request.{Request}
 use Rattle.model_world.specs.declared.command.Request.TheVariants as request
-use Rattle.model_world.specs.declared.command.Command.TheVariants.{Ask}
 use Rattle.model_world.specs.declared.refusal.Refusal.{Refusal}
-use Rattle.model_world.specs.declared.refusal.Refusal.TheVariants.{BadEntry, BadSite, LineTooLong, NotOpen, NothingQueued}
+use Rattle.model_world.specs.declared.refusal.Refusal.TheVariants.{BadEntry, BadSite}
 use Rattle.model_world.specs.declared.reply.Reply.{Reply}
 use Rattle.model_world.specs.declared.reply.Reply.TheVariants.{No}
-use Rattle.model_world.specs.declared.reply.Reply.TheVariants as reply
-use Rattle.model_world.specs.Answers.{Asked, Outcome, after_text, batch_or_no, changed_or_no, content_near, edge_or, erased_or_no, grid_or_no, higher, is_no_end, items_shown_or_no, lower, moved_or_no, near_or_no, next_place, node_or_no, offset_told, performed_or_no, ranges, refusal_outcome, request_outcome, revoked_or_no, select_between, selection_outcome, sent_or_no, served_or_no, taken_or_no, to_erase, typed_or_no, typing, unchanged_outcome, with_site}
-use Rattle.model_world.specs.Commands.{command}
+use Rattle.model_world.specs.Answers.{Asked, Outcome, after_text, batch_or_no, changed_or_no, content_near, edge_or, erased_or_no, grid_or_no, higher, is_no_end, items_shown_or_no, lower, moved_or_no, near_or_no, next_place, node_or_no, offset_told, performed_or_no, refusal_outcome, request_outcome, revoked_or_no, select_between, selection_outcome, sent_or_no, taken_or_no, to_erase, typed_or_no, typing, unchanged_outcome, with_site}
 use Rattle.model_world.specs.Completed.{completed}
 use Rattle.model_world.specs.Edits.{BatchRefusal, batch_on, change_on, checked_transaction}
 use Rattle.model_world.specs.Refusals.{list_refusal, redo_refusal, refused_as, revoke_refusal, send_refusal, table_refusal, undo_refusal}
-use Rattle.model_world.specs.World.{Answer, Closed, Open, World, answer_of, answered_if, asked_of, on_page, reply, reply_and_next, world_after}
-use Rattle.model_world_law.specs.AheadLaws.{EitherOrder, LinesOfTwoSitesSwap, is_serve, is_turn, may_swap}
-use Rattle.model_world_law.specs.Reached.{IsReached, WorldReached}
-use Rattle.model_world_law.proofs.ReachLemmas.{every_world_is_reached, site_holds}
-use Rattle.model_world_law.proofs.ReadLemmas.{not_true}
+use Rattle.model_world_law.specs.AheadLaws.{is_serve, is_turn}
 
 -- ---- members put in their places
 

@@ -1,13 +1,12 @@
 -- Changes completed from the page as it was first read: an opening with an origin has then a head
 -- that is read for it, so names are apart and references have their keys.
 use Rattle.std.proofs.Common.{◌≡◌, ℕ, zero, Bool, true, false, not, ◌&&◌, ◌||◌, ◌==◌, if◌then◌else◌, List, [], ◌∷◌, length, map, suc, Option, Some, None, Result, Ok, Err, refl, sym, ap, ◌∙◌, subst}
-use Rattle.std.specs.Prelude.{is_some, nat_le, nat_lt, replicate, ◌+◌}
+use Rattle.std.specs.Prelude.{nat_le, nat_lt, replicate, ◌+◌}
 use Rattle.std.specs.List.{AllByRecursion}
 use Rattle.std.proofs.lemmas.Bool.{and_from, and_parts}
 use Rattle.ve_base.specs.Limits.{max_marks}
 use Rattle.ve_base.specs.Names.{NamesApart}
 use Rattle.ve_base.specs.declared.head.Head.{Head}
-use Rattle.ve_base.specs.declared.marks.Mark.{Mark}
 use Rattle.ve_kinds.specs.declared.kind.Kind.{Kind}
 use Rattle.ve_kinds.specs.declared.kind.Kind.TheVariants.{Br}
 use Rattle.ve_kinds.specs.Table.{is_element, kind_same}

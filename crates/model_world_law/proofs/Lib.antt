@@ -26,5 +26,7 @@ pub mod ViewLemmas
 pub mod OverMarks
 pub mod AlikeLemmas
 pub mod AheadLemmas
+mod AheadExamples
 pub mod PutBackLemmas
 pub mod PutBackChange
+mod PutBackExamples

@@ -1,9 +1,9 @@
 -- What was read of items that were shown is completed to these items, and so a range that is removed
 -- and put back leaves the list as it is.
-use Rattle.std.proofs.Common.{◌≡◌, ℕ, zero, suc, ◌+◌, ◌-◌, ◌<◌, ◌≤◌, ◌==◌, nat_lt, Bool, true, false, not, ◌&&◌, ◌||◌, if◌then◌else◌, List, [], ◌∷◌, ◌++◌, length, map, take, drop, slice_range, Option, Some, None, Result, Ok, Err, refl, sym, ap, ◌∙◌, arith}
+use Rattle.std.proofs.Common.{◌≡◌, ℕ, zero, suc, ◌+◌, ◌-◌, ◌<◌, ◌≤◌, nat_lt, Bool, true, false, not, ◌&&◌, ◌||◌, if◌then◌else◌, List, [], ◌∷◌, ◌++◌, length, map, take, drop, slice_range, Option, Some, None, Result, Ok, Err, refl, ap, ◌∙◌, arith}
 use Rattle.std.specs.Prelude.{codes, option_and_then, option_map}
 use Rattle.std.specs.List.{AllByRecursion}
-use Rattle.std.proofs.lemmas.Bool.{and_from, and_parts, eq-eqb, lt-ltb}
+use Rattle.std.proofs.lemmas.Bool.{and_parts, eq-eqb, lt-ltb}
 use Rattle.std.proofs.lemmas.List.{take-append-drop}
 use Rattle.serde_json.specs.Data.{Data, no_members, object, put}
 use Rattle.ve_base.specs.declared.head.Head.{Head}
@@ -20,13 +20,13 @@ use Rattle.model_world.specs.declared.edit_command.EditCommand.{EditCommand}
 use Rattle.model_world.specs.declared.edit_command.EditCommand.TheVariants as change
 use Rattle.model_world.specs.declared.refusal.Refusal.{Refusal}
 use Rattle.model_world.specs.declared.refusal.Refusal.TheVariants.{BadLength}
-use Rattle.model_world.specs.Completed.{all_completed, completed, head_for, item_completed, op_completed, read_for}
+use Rattle.model_world.specs.Completed.{all_completed, head_for, item_completed, op_completed}
 use Rattle.model_world.specs.Edits.{change_of, needs, ops_on}
 use Rattle.model_world.specs.Operations.{op_in, word_is_something, words_are_normal}
 use Rattle.model_world.specs.ItemWords.{all_items_in}
 use Rattle.model_world.specs.Shown.{items_shown, json_number}
 use Rattle.model_world.specs.Values.{all_read, number_in, such_that}
-use Rattle.model_world_law.specs.PutBack.{CanPutBack, HasFirst, PutBackStays, put_back_shown, retained_shown, without_head}
+use Rattle.model_world_law.specs.PutBack.{CanPutBack, HasFirst, PutBackStays, retained_shown, without_head}
 use Rattle.model_world_law.specs.ShownLaws.{plain_head}
 use Rattle.model_page.proofs.OnLiterals.{page_on_literals}
 use Rattle.model_world_law.proofs.ShownLemmas.{listed_back, passes}
@@ -216,9 +216,9 @@ put_back_stays opened items from to few some within can first =
           ∙ passes words_are_normal ops (normal_from from count last read (omega (arith, some)));
       t = ops_on done items;
       gives = ap (λ r. change_of items (elim r as (λ _. EditCommand) [
-            | Err origin ↦ change.NoOrigin origin
-            | Ok ops ↦ change.Apply ops
-          ])) whole
+        | Err origin ↦ change.NoOrigin origin
+        | Ok ops ↦ change.Apply ops
+      ])) whole
           ∙ ap (λ b. elim b as (λ _. Result Transaction Refusal) [
             | true ↦ Ok (ops_on done items)
             | false ↦ Err (BadLength (length items) (needs done))

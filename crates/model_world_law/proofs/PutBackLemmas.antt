@@ -1,6 +1,6 @@
 -- Items that are shown are read back by a line with `exact`, but for the heads of leaves that no tag
 -- spells.
-use Rattle.std.proofs.Common.{◌≡◌, ℕ, Bool, true, false, ◌&&◌, ◌||◌, not, if◌then◌else◌, List, [], ◌∷◌, ◌++◌, map, Option, Some, None, refl, sym, ap, ◌∙◌, subst}
+use Rattle.std.proofs.Common.{◌≡◌, ℕ, Bool, true, false, if◌then◌else◌, List, [], ◌∷◌, map, Option, Some, None, refl, sym, ap, ◌∙◌, subst}
 use Rattle.std.specs.Prelude.{codes, nat_lt, option_map, option_and_then}
 use Rattle.std.specs.List.{AllByRecursion}
 use Rattle.serde_json.specs.Data.{Data, Members, boolean, no_members, object, put}
@@ -19,12 +19,12 @@ use Rattle.model_items.specs.declared.plain_item.PlainItem.{PlainItem}
 use Rattle.model_items.specs.declared.plain_item.PlainItem.TheVariants.{Char, Opening, Closing}
 use Rattle.model_page.proofs.OnLiterals.{page_on_literals}
 use Rattle.model_world.specs.Names.{kind_name}
-use Rattle.model_world.specs.Values.{all_read, member_or, number_in, read_or, some_number_in, such_that}
-use Rattle.model_world.specs.Attributes.{allowed_attrs_in, are_allowed, kind_in, marks_in}
-use Rattle.model_world.specs.ItemWords.{Provenance, all_items_in, bracket_in, closing_in, items_in, may_close, may_come, may_open, one_list, opening_attrs_in, opening_in, opening_with, provenance_in, white_in}
-use Rattle.model_world.specs.Shown.{all_shown, as_shown, attrs_shown, closing_shown, items_shown, json_number, json_text, marks_shown, opening_shown, with_attrs, with_flag, with_marks, with_origin, with_reference, with_text}
+use Rattle.model_world.specs.Values.{all_read, member_or, read_or, some_number_in, such_that}
+use Rattle.model_world.specs.Attributes.{allowed_attrs_in, kind_in, marks_in}
+use Rattle.model_world.specs.ItemWords.{Provenance, bracket_in, closing_in, items_in, may_close, may_come, may_open, one_list, opening_attrs_in, opening_in, opening_with, provenance_in, white_in}
+use Rattle.model_world.specs.Shown.{all_shown, as_shown, attrs_shown, closing_shown, json_number, json_text, marks_shown, opening_shown, with_attrs, with_flag, with_marks, with_origin, with_reference, with_text}
 use Rattle.model_world_law.specs.PutBack.{CanPutBack, ExactIsRead, IsElementHead, IsOrigin, is_outer, without_head}
-use Rattle.model_world_law.specs.ShownLaws.{AreAttrs, AreMarks, IsWhite, plain_head}
+use Rattle.model_world_law.specs.ShownLaws.{AreMarks, IsWhite, plain_head}
 use Rattle.model_world_law.proofs.ShownLemmas.{close_at, closed_pre_at, if_some, listed_back, no_open_at, passes}
 use Rattle.model_world_law.proofs.ShownItemLemmas.{Back, all_back, attrs_or, char_back, marks_or, one_back, white_or}
 

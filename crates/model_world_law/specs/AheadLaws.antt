@@ -1,5 +1,5 @@
 -- Lines that name two sites, in either order.
-use Rattle.std.specs.Prelude.{◌≡◌, ℕ, Bool, true, false, not, ◌&&◌, ◌||◌, List, Ok}
+use Rattle.std.specs.Prelude.{◌≡◌, ℕ, Bool, true, false, not, ◌&&◌, List, Ok}
 use Rattle.model_world.specs.declared.command.Request.{Request}
 use Rattle.model_world.specs.declared.command.Request.TheVariants.{Serve, Take}
 use Rattle.model_world.specs.declared.command.Command.TheVariants.{Ask}
