@@ -31,5 +31,5 @@ pub use model_site::{
     EditFault, MAX_PATCHES, Patch, RedoFault, SendFault, Served, Taken, UndoFault,
 };
 pub use sites::Sites;
-pub use ve_peer_undo::RevokeFault;
+pub use ve_peer_undo::LiveFault;
 pub use ve_site::Ends;
