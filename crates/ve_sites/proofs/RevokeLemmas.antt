@@ -68,15 +68,16 @@ pub parcels_unhinted : (cs : List Parcel) → unhinted (map hinted_parcel cs) �
 parcels_unhinted [] = refl
 parcels_unhinted (c ∷ cs) = ap (λ es. parcel_by_value c ∷ es) (parcels_unhinted cs)
 
+none_left : (i : ℕ) (hs : Hints) → hs ≡ [] → hs ≡ drop i hs
+none_left zero hs e = refl
+none_left (suc i) [] e = refl
+none_left (suc i) (h ∷ hs) e = cc
+
 hinted-drop : (i : ℕ) (ps : List Travelled) (hs : Hints) → hinted (drop i ps) (drop i hs) ≡ drop i (hinted ps hs)
 hinted-drop zero ps hs = refl
 hinted-drop (suc i) [] [] = refl
 hinted-drop (suc i) [] (h ∷ hs) = refl
-hinted-drop (suc i) (p ∷ ps) [] = ap (hinted (drop i ps)) (none_left i) ∙ hinted-drop i ps []
-  where
-    none_left : (j : ℕ) → [] ≡ drop j []
-    none_left zero = refl
-    none_left (suc j) = refl
+hinted-drop (suc i) (p ∷ ps) [] = ap (hinted (drop i ps)) (none_left i [] refl) ∙ hinted-drop i ps []
 hinted-drop (suc i) (p ∷ ps) (h ∷ hs) = hinted-drop i ps hs
 
 -- the parcels of what a site knows from one on

@@ -145,13 +145,19 @@ in_conflict_takes_nothing : revoking ((puts 2 120 0 ∷ []) ∷ []) (None ∷ []
 in_conflict_takes_nothing = refl
 
 -- someone took x out, and then that was taken back: x still comes out, unless all of it counts
+abbrev puts_x : Transaction
+puts_x = Retain 2 ∷ Replace [] (letters (codes "x")) ∷ []
+
+abbrev takes_x : Transaction
+takes_x = Retain 2 ∷ Replace (letters (codes "x")) [] ∷ []
+
 abbrev took_x_and_back : List Parcel
-took_x_and_back = (puts 2 120 0 ∷ []) ∷ ((Retain 2 ∷ Replace (letters (codes "x")) [] ∷ []) ∷ []) ∷ (puts 2 120 0 ∷ []) ∷ []
+took_x_and_back = (puts_x ∷ []) ∷ (takes_x ∷ []) ∷ (puts_x ∷ []) ∷ []
 
 abbrev seen_all : Site
 seen_all = record (starting (page (codes "adx"))) { seen = 3 }
 
-what_took_each_other_back_leaves_nothing : revoking took_x_and_back (None ∷ None ∷ Some 1 ∷ []) true 0 seen_all ≡ (Retain 2 ∷ Replace (letters (codes "x")) [] ∷ []) ∷ []
+what_took_each_other_back_leaves_nothing : revoking took_x_and_back (None ∷ None ∷ Some 1 ∷ []) true 0 seen_all ≡ takes_x ∷ []
 what_took_each_other_back_leaves_nothing = refl
 
 all_of_it_counts : revoking took_x_and_back (None ∷ None ∷ Some 1 ∷ []) false 0 seen_all ≡ []
