@@ -8,8 +8,8 @@ use Rattle.model_change.specs.Transaction.{Retain, Replace, Transaction}
 use Rattle.model_edit.specs.Translate.{between}
 use Rattle.model_edit.specs.declared.selection.Selection.{Selection}
 use Rattle.model_site.specs.Causes.{SendCause}
-use Rattle.model_site.specs.Site.{Site, send, pending, Submission}
-use Rattle.model_site.specs.Session.{Member, Session, Foreign, started, feed_for}
+use Rattle.model_site.specs.Site.{Site, send, Submission}
+use Rattle.model_site.specs.Session.{Member, Session, started, feed_for}
 use Rattle.model_site.specs.Events.{Perform, Select, Revoke, Send, Serve, Take, run}
 use Rattle.model_site.specs.Replica.{Replica, opened_with}
 

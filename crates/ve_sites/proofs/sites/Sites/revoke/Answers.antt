@@ -2,7 +2,7 @@ use Rattle.std.specs.Prelude.{vec_len}
 use Rattle.std.proofs.Common.{rules, arith, length, ◌≡◌, ◌<◌, ◌≤◌, ◌+◌, List, Ok, Some, sym, ap, ◌∙◌, subst}
 use Rattle.std.proofs.lemmas.Result.{err_from_is_err_and}
 use Rattle.model_change.specs.Transaction.{Transaction}
-use Rattle.model_site.specs.Entries.{Hints, Parcel}
+use Rattle.model_site.specs.Entries.{Parcel}
 use Rattle.model_site.specs.Live.{revocation}
 use Rattle.model_site.specs.Made.{revoking}
 use Rattle.model_site.specs.Site.{Site, hinted_entries, revoke_entry, with_entry_against}
