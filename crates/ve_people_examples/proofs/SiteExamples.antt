@@ -1,6 +1,6 @@
 -- Worked turns of sites and of their server, beside those of model_site: each tells a call from one
 -- that is wrong in the way that is said above it.
-use Rattle.std.proofs.Common.{◌≡◌, ℕ, ◌-◌, List, [], ◌∷◌, ◌++◌, length, map, slice_get, Option, Some, None, option_map, Result, Ok, Err, codes, refl}
+use Rattle.std.proofs.Common.{◌≡◌, ℕ, ◌-◌, List, [], ◌∷◌, ◌++◌, length, map, slice_get, Option, Some, None, option_map, true, false, Result, Ok, Err, codes, refl}
 use Rattle.ve_kinds.specs.declared.kind.Kind.TheVariants.{P}
 use Rattle.model_items.specs.declared.plain_item.PlainItem.{PlainItem}
 use Rattle.model_items.proofs.ExampleItems.{text, node, internal}
@@ -8,8 +8,8 @@ use Rattle.model_change.specs.Transaction.{Retain, Replace, Transaction}
 use Rattle.model_edit.specs.Translate.{between}
 use Rattle.model_edit.specs.declared.selection.Selection.{Selection}
 use Rattle.model_site.specs.Causes.{SendCause}
-use Rattle.model_site.specs.Site.{Site, send, pending, Submission}
-use Rattle.model_site.specs.Session.{Member, Session, Foreign, started, feed_for}
+use Rattle.model_site.specs.Site.{Site, send, Submission}
+use Rattle.model_site.specs.Session.{Member, Session, started, feed_for}
 use Rattle.model_site.specs.Events.{Perform, Select, Revoke, Send, Serve, Take, run}
 use Rattle.model_site.specs.Replica.{Replica, opened_with}
 
@@ -68,16 +68,24 @@ a_send_counts_entries = refl
 the_entry_that_is_named_is_taken_back :
     lists (run (started (opened []) 1)
     (Perform 0 (inserts 1 (codes "A") 4 ∷ []) ∷ Perform 0 (inserts 2 (codes "B") 5 ∷ []) ∷ Perform 0 (inserts 3 (codes "C") 6 ∷ [])
-    ∷ Send 0 ∷ Serve 0 ∷ Take 0 ∷ Revoke 0 1 ∷ []))
+    ∷ Send 0 ∷ Serve 0 ∷ Take 0 ∷ Revoke 0 1 false ∷ []))
     ≡ page (codes "AC") ∷ []
 the_entry_that_is_named_is_taken_back = refl
 
 -- a reversal that isn't joined over what is pending
 pending_entries_are_later_ones :
     lists (run (started (opened []) 2)
-    (Perform 0 (inserts 1 (codes "A") 4 ∷ []) ∷ Send 0 ∷ Serve 0 ∷ Take 1 ∷ Perform 1 (inserts 1 (codes "C") 5 ∷ []) ∷ Revoke 1 0 ∷ []))
+    (Perform 0 (inserts 1 (codes "A") 4 ∷ []) ∷ Send 0 ∷ Serve 0 ∷ Take 1 ∷ Perform 1 (inserts 1 (codes "C") 5 ∷ []) ∷ Revoke 1 0 false ∷ []))
     ≡ page (codes "A") ∷ page (codes "C") ∷ []
 pending_entries_are_later_ones = refl
+
+-- a revoke whose entry names nothing: where that is taken back, its own could be taken back again
+a_revoke_names_its_entry :
+    lists (run (started (opened []) 1)
+    (Perform 0 (inserts 1 (codes "A") 4 ∷ []) ∷ Perform 0 (inserts 2 (codes "B") 5 ∷ []) ∷ Send 0 ∷ Serve 0 ∷ Take 0
+    ∷ Revoke 0 1 false ∷ Send 0 ∷ Serve 0 ∷ Take 0 ∷ Revoke 0 2 true ∷ Revoke 0 1 true ∷ []))
+    ≡ page (codes "AB") ∷ []
+a_revoke_names_its_entry = refl
 
 -- ---- selections and edits of the site that is named
 

@@ -23,7 +23,7 @@ module _ (values : List Value) (first : List Item) (count : ℕ) (filled : value
   base = page_of values first (between 0 0)
 
   abbrev pub served_yet : Serving
-  served_yet = record { committed = []; queues = replicate count [] }
+  served_yet = record { committed = []; hints = []; queues = replicate count [] }
 
   abbrev pub all : List Sender
   all = first_senders 0 count (starting base)
@@ -33,7 +33,7 @@ module _ (values : List Value) (first : List Item) (count : ℕ) (filled : value
 
   session_is : session_of values first served_yet all ≡ started (opened_with (plain_list values first)) count
   session_is =
-      ap (λ ms. record { base = base; committed = []; members = ms }) (begun_members 0 count (starting base)) ∙ ap (λ b. started b count) opened
+      ap (λ ms. record { base = base; committed = []; hints = []; members = ms }) (begun_members 0 count (starting base)) ∙ ap (λ b. started b count) opened
 
   pub begins : shared_of values first served_yet all ≡ record { first = first; session = started (opened_with (plain_list values first)) count }
   begins = ap (λ s. record { first = first; session = s }) session_is

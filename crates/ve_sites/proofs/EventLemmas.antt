@@ -39,7 +39,7 @@ pub redo_happens : RedoHappens
 redo_happens s k site among h = at_the_site s k _ among ∙ ap (λ r. with_site_of k (member_at s k) r s.session) h
 
 pub revoke_happens : RevokeHappens
-revoke_happens s k i site among h = at_the_site s k _ among ∙ ap (λ r. with_site_of k (member_at s k) r s.session) h
+revoke_happens s k i live site among h = at_the_site s k _ among ∙ ap (λ r. with_site_of k (member_at s k) r s.session) h
 
 pub send_happens : SendHappens
 send_happens old new k count among gone =

@@ -1,5 +1,5 @@
 -- A session in which one site is changed by a call.
-use Rattle.std.proofs.Common.{◌≡◌, ◌<◌, ℕ, zero, suc, List, [], ◌∷◌, ◌++◌, length, set, get_or, true, Result, Ok, Err, OnOk, OnErr, IfOk, sym, ap, ◌∙◌, subst, arith}
+use Rattle.std.proofs.Common.{◌≡◌, ◌<◌, ℕ, zero, suc, List, [], ◌∷◌, ◌++◌, length, set, get_or, Bool, true, Result, Ok, Err, OnOk, OnErr, IfOk, sym, ap, ◌∙◌, subst, arith}
 use Rattle.std.proofs.lemmas.List.{get_or-set_same, length-set, set-get_or}
 use Rattle.ve_base.specs.declared.value.Value.{Value}
 use Rattle.model_items.specs.declared.item.Item.{Item}
@@ -132,8 +132,8 @@ module _ {now : Shared} {values : List Value} {first : List Item} {server : Serv
   pub told_stays : (t : Sender) → t ≡ at_site (with_told m.site) m → Stays t
   told_stays t e = subst Stays (sym e) (tells values first server senders p.holds k m below p.is)
 
-  pub revoked_stays : (t : Sender) (i : ℕ) → i < m.site.seen → revoke_entry server.committed i m.site ≡ Ok t.site → t ≡ at_site t.site m → Stays t
-  revoked_stays t i seen done same = subst Stays (sym same) (revokes values first server senders p.holds k m below p.is i t.site seen done)
+  pub revoked_stays : (t : Sender) (live : Bool) (i : ℕ) → i < m.site.seen → revoke_entry server.committed server.hints live i m.site ≡ Ok t.site → t ≡ at_site t.site m → Stays t
+  revoked_stays t live i seen done same = subst Stays (sym same) (revokes values first server senders p.holds k m below p.is live i t.site seen done)
 
   pub gone_stays : (t : Sender) (count : ℕ) → HasGone count m t → Stays t
   gone_stays t count h =

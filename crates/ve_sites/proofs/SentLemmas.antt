@@ -9,7 +9,7 @@ use Rattle.ve_sites.specs.Senders.{HasGone, Sender, sender_of}
 
 pub gone : (old : Sender) (s now : Numbered) (waiting all : List Submit) (submit : Submit) (count : ℕ) (pushed : Bool) → sender_of s waiting ≡ old →
     send s.site ≡ Ok (now.site, submission_of submit) → now.number ≡ s.number → all ≡ (if pushed then waiting ++ submit ∷ [] else waiting) → pushed ≡ true →
-    count ≡ length submit.parcels → HasGone count old (sender_of now all)
+    count ≡ length submit.parcels.entries → HasGone count old (sender_of now all)
 gone old s now waiting all submit count pushed view done number items ok counted =
     let behind : map submission_of all ≡ old.submissions ++ submission_of submit ∷ [] =
     ap (map submission_of) (items ∙ ap (λ (b : Bool). if b then waiting ++ submit ∷ [] else waiting) ok)

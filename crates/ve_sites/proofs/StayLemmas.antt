@@ -1,5 +1,5 @@
 -- The invariant of a session's fields, after each event of one site.
-use Rattle.std.proofs.Common.{◌≡◌, ◌<◌, ℕ, List, [], ◌∷◌, ◌++◌, length, set, get_or, slice_get, Option, Some, None, Ok, true, refl, sym, ap, ◌∙◌, subst}
+use Rattle.std.proofs.Common.{◌≡◌, ◌<◌, ℕ, List, [], ◌∷◌, ◌++◌, length, set, get_or, slice_get, Bool, Option, Some, None, Ok, true, refl, sym, ap, ◌∙◌, subst}
 use Rattle.std.proofs.lemmas.List.{length-set}
 use Rattle.ve_base.specs.declared.value.Value.{Value}
 use Rattle.model_items.specs.declared.item.Item.{Item}
@@ -108,10 +108,10 @@ module _ (values : List Value) (first : List Item) (server : Serving) (senders :
         subst SessionHolds (ap (λ o. at_member w o (λ n. with_site_of k n (redo n.site) w)) found ∙ ap (λ r. with_site_of k here r w) done)
         (event_holds w (Redo k) h.holds tt))
 
-    pub revokes : (i : ℕ) (x : Site) → i < m.site.seen → revoke_entry server.committed i m.site ≡ Ok x → IsShared values first server (set senders k (at_site x m))
-    revokes i x seen done = stays (at_site x m) refl (
-        subst SessionHolds (ap (λ o. at_member w o (λ n. with_site_of k n (revoke_entry w.committed i n.site) w)) found ∙ ap (λ r. with_site_of k here r w) done)
-        (event_holds w (Revoke k i) h.holds (λ n e. subst (λ (x : Member). i < x.site.seen) (this_one n e) seen)))
+    pub revokes : (live : Bool) (i : ℕ) (x : Site) → i < m.site.seen → revoke_entry server.committed server.hints live i m.site ≡ Ok x → IsShared values first server (set senders k (at_site x m))
+    revokes live i x seen done = stays (at_site x m) refl (
+        subst SessionHolds (ap (λ o. at_member w o (λ n. with_site_of k n (revoke_entry w.committed w.hints live i n.site) w)) found ∙ ap (λ r. with_site_of k here r w) done)
+        (event_holds w (Revoke k i live) h.holds (λ n e. subst (λ (x : Member). i < x.site.seen) (this_one n e) seen)))
 
     pub sends_on : (t : Sender) (submission : Submission) → send m.site ≡ Ok (t.site, submission) → t.number ≡ m.number → t.submissions ≡ m.submissions ++ submission ∷ [] →
         IsShared values first server (set senders k t)

@@ -1,5 +1,5 @@
 -- Two sites over a list of letters.
-use Rattle.std.proofs.Common.{◌≡◌, ℕ, List, [], ◌∷◌, map, None, Some, codes, refl}
+use Rattle.std.proofs.Common.{◌≡◌, ℕ, List, [], ◌∷◌, map, None, Some, true, false, codes, refl}
 use Rattle.ve_base.specs.declared.value.Value.TheVariants.{White}
 use Rattle.model_items.specs.declared.item.Item.{Item}
 use Rattle.model_items.specs.declared.item.Item.TheVariants as item
@@ -7,6 +7,7 @@ use Rattle.model_items.specs.declared.plain_item.PlainItem.{PlainItem}
 use Rattle.model_items.specs.declared.plain_item.PlainItem.TheVariants.{Char}
 use Rattle.model_change.specs.Transaction.{Retain, Replace, Transaction}
 use Rattle.model_edit.specs.Translate.{between}
+use Rattle.model_site.specs.Entries.{Parcel}
 use Rattle.model_site.specs.Replica.{Replica}
 use Rattle.model_site.specs.Session.{Ack, Foreign, joining}
 use Rattle.model_site.specs.Site.{Site, Submission, starting}
@@ -31,18 +32,18 @@ puts at letter after = Retain at ∷ Replace [] (letters (letter ∷ [])) ∷ Re
 
 -- it put b after a, and has not sent it
 abbrev unsent_b : Site
-unsent_b = record (starting (page (codes "abd"))) { unsent = record { txs = puts 1 98 1 ∷ []; store_before = 0; store_after = 0 } ∷ [] }
+unsent_b = record (starting (page (codes "abd"))) { unsent = record { txs = puts 1 98 1 ∷ []; store_before = 0; store_after = 0; takes_back = None } ∷ [] }
 
 -- it put c before d and sent that
 abbrev sent_c : Site
 sent_c = record (starting (page (codes "acd"))) {
-  sent = record { txs = puts 1 99 1 ∷ []; store_before = 0; store_after = 0 } ∷ [];
+  sent = record { txs = puts 1 99 1 ∷ []; store_before = 0; store_after = 0; takes_back = None } ∷ [];
   shared = 1;
   in_flight = Some 1;
 }
 
 abbrev submitted_c : Submission
-submitted_c = record { base = 0; entries = (puts 1 99 1 ∷ []) ∷ [] }
+submitted_c = record { base = 0; entries = (puts 1 99 1 ∷ []) ∷ []; hints = None ∷ [] }
 
 abbrev senders : List Sender
 senders = record { number = 0; site = unsent_b; submissions = [] } ∷ record { number = 1; site = sent_c; submissions = submitted_c ∷ [] } ∷ []
@@ -50,6 +51,7 @@ senders = record { number = 0; site = unsent_b; submissions = [] } ∷ record { 
 abbrev committed_x : Serving
 committed_x = record {
   committed = (puts 2 120 0 ∷ []) ∷ [];
+  hints = Some 3 ∷ [];
   queues = (Foreign ((puts 2 120 0 ∷ []) ∷ []) ∷ []) ∷ (Ack 1 ∷ Ack 0 ∷ []) ∷ [];
 }
 
@@ -61,6 +63,7 @@ shared = shared_of [] (listed (codes "ad")) committed_x senders
 by_fields : session_of [] (listed (codes "ad")) committed_x senders ≡ record {
   base = page (codes "ad");
   committed = committed_x.committed;
+  hints = Some 3 ∷ [];
   members = record { site = unsent_b; submissions = []; feeds = Foreign ((puts 2 120 0 ∷ []) ∷ []) ∷ [] }
       ∷ record { site = sent_c; submissions = submitted_c ∷ []; feeds = Ack 1 ∷ Ack 0 ∷ [] }
       ∷ [];
@@ -113,7 +116,7 @@ abbrev sent_b : Site
 sent_b = record (starting (page (codes "abd"))) { sent = unsent_b.unsent; shared = 1; in_flight = Some 1 }
 
 abbrev submitted_b : Submission
-submitted_b = record { base = 0; entries = (puts 1 98 1 ∷ []) ∷ [] }
+submitted_b = record { base = 0; entries = (puts 1 98 1 ∷ []) ∷ []; hints = None ∷ [] }
 
 one_is_sent : HasSent 0 1 shared (with_member_at 0 (record { site = sent_b; submissions = submitted_b ∷ []; feeds = (member_at shared 0).feeds }) shared)
 one_is_sent = record { submission = submitted_b; sent = refl; counted = refl; same = refl }
@@ -130,13 +133,36 @@ no_feed_takes_none : steps_of_turn (joining (page (codes "ad"))) ≡ 0
 no_feed_takes_none = refl
 
 -- x stood last, and comes back out behind the letter that was put in since
-takes_x_back : revoking ((puts 2 120 0 ∷ []) ∷ []) 0
-    (record (starting (page (codes "abdx"))) { seen = 1; unsent = record { txs = puts 1 98 2 ∷ []; store_before = 0; store_after = 0 } ∷ [] })
+takes_x_back : revoking ((puts 2 120 0 ∷ []) ∷ []) (None ∷ []) false 0
+    (record (starting (page (codes "abdx"))) { seen = 1; unsent = record { txs = puts 1 98 2 ∷ []; store_before = 0; store_after = 0; takes_back = None } ∷ [] })
     ≡ (Retain 3 ∷ Replace (letters (codes "x")) [] ∷ []) ∷ []
 takes_x_back = refl
 
 -- a letter was put beside it
-in_conflict_takes_nothing : revoking ((puts 2 120 0 ∷ []) ∷ []) 0
-    (record (starting (page (codes "ad"))) { seen = 1; unsent = record { txs = (Retain 2 ∷ Replace (letters (codes "x")) [] ∷ []) ∷ []; store_before = 0; store_after = 0 } ∷ [] })
+in_conflict_takes_nothing : revoking ((puts 2 120 0 ∷ []) ∷ []) (None ∷ []) false 0
+    (record (starting (page (codes "ad"))) { seen = 1; unsent = record { txs = (Retain 2 ∷ Replace (letters (codes "x")) [] ∷ []) ∷ []; store_before = 0; store_after = 0; takes_back = None } ∷ [] })
     ≡ []
 in_conflict_takes_nothing = refl
+
+-- someone took x out, and then that was taken back: x still comes out, unless all of it counts
+abbrev puts_x : Transaction
+puts_x = Retain 2 ∷ Replace [] (letters (codes "x")) ∷ []
+
+abbrev takes_x : Transaction
+takes_x = Retain 2 ∷ Replace (letters (codes "x")) [] ∷ []
+
+abbrev took_x_and_back : List Parcel
+took_x_and_back = (puts_x ∷ []) ∷ (takes_x ∷ []) ∷ (puts_x ∷ []) ∷ []
+
+abbrev seen_all : Site
+seen_all = record (starting (page (codes "adx"))) { seen = 3 }
+
+what_took_each_other_back_leaves_nothing : revoking took_x_and_back (None ∷ None ∷ Some 1 ∷ []) true 0 seen_all ≡ takes_x ∷ []
+what_took_each_other_back_leaves_nothing = refl
+
+all_of_it_counts : revoking took_x_and_back (None ∷ None ∷ Some 1 ∷ []) false 0 seen_all ≡ []
+all_of_it_counts = refl
+
+-- the hint is of another entry
+no_hint_leaves_it : revoking took_x_and_back (None ∷ None ∷ Some 0 ∷ []) true 0 seen_all ≡ []
+no_hint_leaves_it = refl

@@ -1,5 +1,5 @@
 -- The server's turn and a site's: what they may be asked, and what they make of a session.
-use Rattle.std.proofs.Common.{◌≡◌, ◌<◌, ◌≤◌, ℕ, List, [], ◌∷◌, ◌++◌, length, drop, set, get_or, slice_get, Option, Some, None, is_some, true≢false, refl, sym, ap, ◌∙◌, subst, arith}
+use Rattle.std.proofs.Common.{◌≡◌, ◌<◌, ◌≤◌, ℕ, List, [], ◌∷◌, ◌++◌, length, take, drop, set, get_or, slice_get, Option, Some, None, is_some, true≢false, refl, sym, ap, ◌∙◌, subst, arith}
 use Rattle.std.proofs.lemmas.List.{length-append, length-set}
 use Rattle.std.proofs.Math.Seq.{drop-append_seam}
 use Rattle.ve_base.specs.declared.value.Value.{Value}
@@ -148,7 +148,7 @@ module _ (values : List Value) (first : List Item) (server : Serving) (senders :
     served_session : session_of values first (after_serving k s server) (set senders k left) ≡ (serve_one k one s left.submissions w).0
     served_session =
         let kept = (accepted_of server.committed s).kept in
-        ap (λ ms. record { base = w.base; committed = server.committed ++ kept; members = ms })
+        ap (λ ms. record { base = w.base; committed = server.committed ++ kept; hints = server.hints ++ take (length kept) s.hints; members = ms })
         (members_fed k 0 kept (set senders k left) server.queues ∙ ap (all_fed k 0 kept) (members_put senders server.queues k left h.as_many inside))
 
     pub serve_stays : IsShared values first (after_serving k s server) (set senders k left)

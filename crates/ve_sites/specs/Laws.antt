@@ -1,5 +1,5 @@
 -- Each turn of a session is the model's event of its name.
-use Rattle.std.specs.Prelude.{◌≡◌, ◌<◌, ℕ, List, [], ◌∷◌, Some, Ok}
+use Rattle.std.specs.Prelude.{◌≡◌, ◌<◌, ℕ, Bool, List, [], ◌∷◌, Some, Ok}
 use Rattle.model_change.specs.Transaction.{Transaction}
 use Rattle.model_edit.specs.declared.selection.Selection.{Selection}
 use Rattle.model_site.specs.Events.{happens, Perform, Redo, Revoke, Select, Send, Serve, Take, Tell, Undo}
@@ -38,8 +38,8 @@ RedoHappens = (s : Shared) (k : ℕ) (site : Site) → k < sites s → redo (sit
     happens s.session (Redo k) ≡ (with_site_at k site s).session
 
 abbrev pub RevokeHappens : Type 0
-RevokeHappens = (s : Shared) (k i : ℕ) (site : Site) → k < sites s → revoke_entry s.session.committed i (site_at s k) ≡ Ok site →
-    happens s.session (Revoke k i) ≡ (with_site_at k site s).session
+RevokeHappens = (s : Shared) (k i : ℕ) (live : Bool) (site : Site) → k < sites s → revoke_entry s.session.committed s.session.hints live i (site_at s k) ≡ Ok site →
+    happens s.session (Revoke k i live) ≡ (with_site_at k site s).session
 
 -- messages between it and the server
 abbrev pub SendHappens : Type 0

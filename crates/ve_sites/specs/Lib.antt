@@ -5,6 +5,8 @@ pub use Rattle.model_site_law.specs.Protocol
 pub use Rattle.model_site_law.specs.Sound
 pub use Rattle.model_site_law.specs.SelectionLaws
 pub use Rattle.ve_editor.specs.Edited
+pub use Rattle.model_site.specs.Live
+pub use Rattle.ve_peer_undo.specs.Counting
 pub use Rattle.ve_peer_undo.specs.Refusal as RevokeRefusal
 pub use Rattle.model_site.specs.Made
 pub use Rattle.ve_site.specs.Refusal as SiteRefusal
@@ -14,4 +16,5 @@ pub mod Shared
 pub mod Senders
 pub mod IsShared
 pub mod Turns
+pub mod FirstBack
 pub mod Laws

@@ -57,6 +57,7 @@ abbrev pub session_of : List Value → List Item → Serving → List Sender →
 session_of values first server senders = record {
   base = page_of values first (between 0 0);
   committed = server.committed;
+  hints = server.hints;
   members = members_of senders server.queues;
 }
 

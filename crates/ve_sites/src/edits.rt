@@ -1,20 +1,23 @@
 // Turns of one site by itself.
-ghost use Rattle.std.specs.Prelude.{◌≡◌, ◌≢◌, ◌≤◌, ◌<◌, ◌+◌, ◌∷◌, [], Ok, List, drop, length, IsOk, IfOk, IfErr, OnOk, OnErr};
-ghost use Rattle.model_change.specs.Replay.{revoke};
+ghost use Rattle.std.specs.Prelude.{◌≡◌, ◌≢◌, ◌≤◌, ◌<◌, ◌+◌, ◌∷◌, [], All, Ok, Some, List, drop, length, map, IsOk, IfOk, IfErr, OnOk, OnErr};
 ghost use Rattle.model_change.specs.Transaction.{InsertedApart};
 ghost use Rattle.model_site.specs.Refused.{edit_cause};
-ghost use Rattle.model_site.specs.Site.{edit, entries_of, redo, revoke_entry, undo, with_selection, with_told};
+ghost use Rattle.model_site.specs.Live.{revocation};
+ghost use Rattle.model_site.specs.Site.{edit, entries_of, hinted_entries, hints_of, redo, revoke_entry, undo, with_selection, with_told};
 ghost use Rattle.model_site_law.specs.SelectionLaws.{StandsIn};
 ghost use Rattle.model_change.specs.Cost.{cost_of_transactions};
 ghost use Rattle.model_items.specs.Cost.{cost_of_tree};
 ghost use Rattle.ve_editor.specs.Counted.{steps_over};
 ghost use Rattle.ve_editor.specs.Edited.{IsDraftOf, drafted};
 ghost use Rattle.ve_editor.specs.Refusal.{IsEditRefusal};
-ghost use Rattle.ve_peer_undo.specs.Refusal.{IsRevokeRefusal};
+ghost use Rattle.ve_peer_undo.specs.Counting.{hinted_parcel, RunFromPage};
+ghost use Rattle.ve_peer_undo.specs.Refusal.{IsLiveRefusal};
 ghost use Rattle.model_site.specs.Made.{redoing, undoing, revoking};
 ghost use Rattle.ve_site.specs.Refusal.{IsRedoRefusal, IsUndoRefusal};
 ghost use Rattle.ve_site.specs.Attempted.{IsAttempted};
+ghost use Rattle.ve_sites.specs.FirstBack.{first_back};
 ghost use Rattle.ve_sites.specs.Shared.{site_at, sites, with_site_at};
+ghost use Rattle.ve_tx.specs.ByValue.{parcel_by_value, ParcelCites};
 
 use crate::Sites;
 use model_edit::Selection;
@@ -23,22 +26,48 @@ use std::alloc::Global;
 use std::sync::ledger::Ledger;
 use ve_base::{Memory, Steps};
 use ve_editor::Attempt;
-use ve_peer_undo::{RevokeFault, entries_are_taken_back, reversal};
+use ve_peer_undo::{LiveFault, entries_are_taken_back, live_reversal, reversal};
 use ve_server::Parcels;
 use ve_site::Site;
-use ve_tx::{Draft, ParcelList};
+use ve_tx::{Draft, Parcel, ParcelList};
 
 /// The entries that a site knows from one on: the committed ones that it has seen, and then its
-/// pending ones.
+/// pending ones, each with what it takes back.
 fn known_from(alloc: Global, committed: &Parcels, i: usize, site: &Site) -> Result<Parcels, Memory>
     requires from { i ≤ site.now.site.seen }
-    requires seen { site.now.site.seen ≤ length committed.now }
-    ensures { IfOk result (λ known. known ≡ drop i (entries_of committed.now site.now.site)) }
+    requires seen { site.now.site.seen ≤ length committed.now.entries }
+    ensures entries { IfOk result (λ known.
+        known.entries ≡ drop i (entries_of committed.now.entries site.now.site)) }
+    ensures hints { IfOk result (λ known.
+        known.hints ≡ drop i (hints_of committed.now.hints site.now.site)) }
 {
     let seen = &committed.as_slice()[i..site.seen()];
     let mut known = Parcels::from_list(ParcelList::copy_of(alloc, seen)?);
     known.append(site.pending()?)?;
     Ok(known)
+}
+
+/// The parcel that takes the first of these entries back, which has that number, under all of them;
+/// or, where `live`, under those that still count.
+fn back_of(alloc: Global, number: usize, known: &[Parcel], live: bool) -> Result<Parcel, LiveFault>
+    requires some { 0 < length known.now }
+    requires cite { All ParcelCites known.now }
+    requires run { RunFromPage (map parcel_by_value known.now) }
+    ensures back { IfOk result (λ back.
+        first_back live number (map hinted_parcel known.now) ≡ Ok (parcel_by_value back)) }
+    ensures takes_back { IfOk result (λ back. back.entry.takes_back ≡ Some number) }
+    ensures cites { IfOk result ParcelCites }
+    ensures refused { IfErr result (
+        IsLiveRefusal (first_back live number (map hinted_parcel known.now))) }
+{
+    if live {
+        return live_reversal(alloc, number, known);
+    }
+    // entries that run meet what `reversal` asks
+    entries_are_taken_back();
+    let mut back = reversal(alloc, known, 0)?;
+    back.entry.takes_back = Some(number);
+    Ok(back)
 }
 
 impl Sites {
@@ -160,35 +189,44 @@ impl Sites {
     }
 
     /// Takes back, at site `k`, the committed entry `i` under all later entries that the site
-    /// knows, as a new entry of its own. `Conflict` comes exactly where a later one conflicts with
-    /// the reversal, and names the first two ranges that do. An `Err` changes nothing.
+    /// knows, as a new entry of its own, which names `i`. `Conflict` comes exactly where a later
+    /// one conflicts with the reversal, and names the first two ranges that do. An `Err` changes
+    /// nothing.
+    ///
+    /// Where `live`, later entries that took each other back don't stand in the way, and
+    /// `TakenBack` comes exactly where a later one took `i` back already.
     pub fn revoke<L: Ledger>(
         &mut self,
         k: usize,
         i: usize,
+        live: bool,
         steps: &mut Steps<L>,
-    ) -> Result<(), RevokeFault>
+    ) -> Result<(), LiveFault>
         requires site { k < sites self.old }
         requires seen { i < (site_at self.old k).seen }
         ensures site { OnOk result (
-            revoke_entry self.old.session.committed i (site_at self.old k)
+            revoke_entry self.old.session.committed self.old.session.hints live i
+            (site_at self.old k)
             ≡ Ok (site_at self.new k)) }
         ensures same { OnOk result (self.new ≡ with_site_at k (site_at self.new k) self.old) }
         ensures refused { IfErr result (
-            IsRevokeRefusal (
-            revoke (entries_of self.old.session.committed (site_at self.old k)) i)) }
+            IsLiveRefusal (
+            revocation live (
+            hinted_entries self.old.session.committed self.old.session.hints (site_at self.old k))
+            i)) }
         ensures kept { OnErr result (self.new ≡ self.old) }
         ensures counted { steps.old ≤ steps.new }
         ensures steps { steps.new
             ≤ steps.old
-            + steps_over (revoking self.old.session.committed i (site_at self.old k))
+            + steps_over (
+            revoking self.old.session.committed self.old.session.hints live i (site_at self.old k))
             (site_at self.old k).replica.items }
     {
-        // entries that run meet what `reversal` asks, and those before `i` don't matter
+        // the entries before `i` don't matter
         entries_are_taken_back();
         let alloc = *self.members.allocator();
         let known = known_from(alloc, self.server.committed(), i, self.members[k].site())?;
-        let back = reversal(alloc, known.as_slice(), 0)?;
+        let back = back_of(alloc, i, known.as_slice(), live)?;
         self.members[k].adopt(&back, steps)?;
         Ok(())
     }

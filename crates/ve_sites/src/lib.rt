@@ -6,10 +6,11 @@
 //!
 //! The view of `Sites` is the model's session, beside the list that it was opened with (`Shared` in
 //! specs/). `edit`, `attempt`, `select`, `tell`, `undo`, `redo` and `revoke` change one site and
-//! nothing else; `told` gives what `tell` marks as told. `send` puts a submission behind those that wait; `serve` is the server's turn and `take` a
-//! site's (`Turns`). Each makes of the session what the model's event of its name does: that is a
-//! law, `turns_are_events` (`Laws`). The type keeps the invariant of a session (`IsShared`), whose
-//! fields `Senders` reads. So each call asks only for such a site, and for what that site asks.
+//! nothing else; `told` gives what `tell` marks as told. `send` puts a submission behind those that
+//! wait; `serve` is the server's turn and `take` a site's (`Turns`). Each makes of the session what
+//! the model's event of its name does: that is a law, `turns_are_events` (`Laws`). The type keeps
+//! the invariant of a session (`IsShared`), whose fields `Senders` reads. So each call asks only for
+//! such a site, and for what that site asks. `FirstBack` serves a private function.
 //!
 //! `ends` says exactly how many items all transactions that a site knows leave as they were, at the
 //! list's beginning and at its end: those of the committed entries that it has seen, and its own.
@@ -31,5 +32,5 @@ pub use model_site::{
     EditFault, MAX_PATCHES, Patch, RedoFault, SendFault, Served, Taken, UndoFault,
 };
 pub use sites::Sites;
-pub use ve_peer_undo::RevokeFault;
+pub use ve_peer_undo::LiveFault;
 pub use ve_site::Ends;

@@ -4,7 +4,7 @@ ghost use Rattle.model_change.specs.Replay.{AllRun};
 ghost use Rattle.model_change.specs.Transaction.{InsertedApart};
 ghost use Rattle.model_site.specs.Refused.{edit_cause};
 ghost use Rattle.model_site.specs.Session.{site_after, taken_as};
-ghost use Rattle.model_site.specs.Site.{edit, redo, send, undo, with_entry, with_selection, with_told};
+ghost use Rattle.model_site.specs.Site.{edit, redo, send, undo, with_entry_against, with_selection, with_told};
 ghost use Rattle.model_site_law.specs.SelectionLaws.{StandsIn};
 ghost use Rattle.model_change.specs.Cost.{cost_of_transactions};
 ghost use Rattle.ve_editor.specs.Counted.{steps_over};
@@ -154,7 +154,10 @@ impl Member {
         requires cites { ParcelCites back.now }
         requires run { AllRun (parcel_by_value back.now) self.old.site.replica.items }
         ensures site { OnOk result (
-            self.new ≡ at_site (with_entry (parcel_by_value back.now) self.old.site) self.old) }
+            self.new
+            ≡ at_site (
+            with_entry_against back.now.entry.takes_back (parcel_by_value back.now) self.old.site)
+            self.old) }
         ensures kept { OnErr result (self.new ≡ self.old) }
         ensures counted { steps.old ≤ steps.new }
         ensures steps { steps.new

@@ -102,11 +102,11 @@ fn all_begun<L: Ledger>(
 /// What the entries that a site knows leave of these ends: the committed ones that it has seen, and
 /// its pending ones.
 fn ends_of(most: Ends, committed: &Parcels, site: &Site) -> Ends
-    requires { site.now.site.seen ≤ length committed.now }
+    requires { site.now.site.seen ≤ length committed.now.entries }
     ensures least { result
-        ≡ least_ends most (flattened (entries_of committed.now site.now.site)) }
+        ≡ least_ends most (flattened (entries_of committed.now.entries site.now.site)) }
     ensures within { (result.prefix ≤ most.prefix) × (result.suffix ≤ most.suffix) }
-    ensures left { LeaveEnds result (flattened (entries_of committed.now site.now.site)) }
+    ensures left { LeaveEnds result (flattened (entries_of committed.now.entries site.now.site)) }
 {
     let seen = &committed.as_slice()[..site.seen()];
     site.ends(ends_under(most, seen))

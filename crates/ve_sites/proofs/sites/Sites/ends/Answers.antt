@@ -23,7 +23,7 @@ ends_of-requires c =
     let inside = room c.args.self.now s.values s.first.items s.server s.members.items c.args.k c.self.invariant c.self.view_is c.requires.site in
     let within = seen_within s.values s.first.items s.server s.members.items c.self.invariant c.args.k m inside c.index.ensures in
     let e = ap (λ (x : Site). x.seen) c.site.ensures.site in
-    let n = ap (λ (ps : List Parcel). length ps) c.committed.ensures in
+    let n = ap (λ (ps : List Parcel). length ps) c.committed.ensures.entries in
     omega (arith, within, e, n)
 
 pub returns : goal.returns
@@ -34,15 +34,15 @@ returns c =
     let p : Placed c.args.self.now s.values s.first.items s.server s.members.items c.args.k m =
     record { holds = c.self.invariant; view = c.self.view_is; inside = c.requires.site; is = c.index.ensures } in
     let long : c.len-count.result ≡ length c.args.self.now.first = c.len-count.ensures ∙ ap (λ (x : Shared). length x.first) c.self.view_is in
-    let committed = c.committed.ensures ∙ ap (λ (x : Shared). x.session.committed) c.self.view_is in
+    let committed = c.committed.ensures.entries ∙ ap (λ (x : Shared). x.session.committed) c.self.view_is in
     let within = c.ends_of.ensures.within in
     record {
       least = told p (λ (x : Site). e ≡ least_ends (whole_list (length c.args.self.now.first)) (flattened (entries_of c.args.self.now.session.committed x)))
           (subst (λ n. e ≡ least_ends (whole_list n) (flattened (entries_of c.args.self.now.session.committed m.site))) long
           (subst (λ ps. e ≡ least_ends (whole_list c.len-count.result) (flattened (entries_of ps m.site))) committed
-          (subst (λ (x : Site). e ≡ least_ends (whole_list c.len-count.result) (flattened (entries_of c.committed.result.now x))) c.site.ensures.site c.ends_of.ensures.least)));
+          (subst (λ (x : Site). e ≡ least_ends (whole_list c.len-count.result) (flattened (entries_of c.committed.result.now.entries x))) c.site.ensures.site c.ends_of.ensures.least)));
       within = (omega (arith, within.0, long), omega (arith, within.1, long));
       left = told p (λ (x : Site). LeaveEnds e (flattened (entries_of c.args.self.now.session.committed x)))
           (subst (λ ps. LeaveEnds e (flattened (entries_of ps m.site))) committed
-          (subst (λ (x : Site). LeaveEnds e (flattened (entries_of c.committed.result.now x))) c.site.ensures.site c.ends_of.ensures.left));
+          (subst (λ (x : Site). LeaveEnds e (flattened (entries_of c.committed.result.now.entries x))) c.site.ensures.site c.ends_of.ensures.left));
     }

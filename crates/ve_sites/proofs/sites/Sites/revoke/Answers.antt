@@ -1,19 +1,18 @@
 use Rattle.std.specs.Prelude.{vec_len}
-use Rattle.std.proofs.Common.{rules, arith, length, ◌≡◌, ◌<◌, ◌≤◌, ◌+◌, List, Ok, drop, map, sym, ap, ◌∙◌, subst}
-use Rattle.std.proofs.lemmas.List.{length-map}
+use Rattle.std.proofs.Common.{rules, arith, length, ◌≡◌, ◌<◌, ◌≤◌, ◌+◌, List, Ok, Some, sym, ap, ◌∙◌, subst}
 use Rattle.std.proofs.lemmas.Result.{err_from_is_err_and}
-use Rattle.model_change.specs.Replay.{revoke}
 use Rattle.model_change.specs.Transaction.{Transaction}
 use Rattle.model_site.specs.Entries.{Parcel}
-use Rattle.model_site.specs.Site.{Site, entries_of, revoke_entry, with_entry}
+use Rattle.model_site.specs.Live.{revocation}
+use Rattle.model_site.specs.Made.{revoking}
+use Rattle.model_site.specs.Site.{Site, hinted_entries, revoke_entry, with_entry_against}
 use Rattle.ve_editor.specs.Counted.{steps_over}
-use Rattle.ve_peer_undo.specs.Refusal.{IsRevokeRefusal}
+use Rattle.ve_peer_undo.specs.Refusal.{IsLiveRefusal}
 use Rattle.ve_tx.specs.ByValue.{parcel_by_value}
 use Rattle.ve_sites.specs.Senders.{Sender, at_site}
 use Rattle.ve_sites.specs.Shared.{Shared}
-use Rattle.model_site.specs.Made.{revoking}
 use Rattle.ve_sites.proofs.PlacedLemmas.{Placed, asked, one_place, revoked_stays, room, told, told_both, with_its_site}
-use Rattle.ve_sites.proofs.RevokeLemmas.{back_is, back_runs, later_may, later_revoked, revoke_gives, seen_within, some_later}
+use Rattle.ve_sites.proofs.RevokeLemmas.{back_is, back_runs, later_hinted, later_revoked, later_run, revoke_gives, seen_within, some_later}
 use Rattle.ve_sites.proofs.sites.Sites.revoke.Goals as goal
 
 pub index-requires : goal.index-requires
@@ -39,10 +38,11 @@ known_from-requires-clause-from g c =
     let ms = s.members.items in
     let k = c.args.k in
     let i = c.args.i in
+    let live = c.args.live in
     let inside = room c.args.self.now v f v2 ms k c.self.invariant c.self.view_is c.requires.site in
     let m = c.index.result.now in
-    let p : Placed c.args.self.now v f v2 ms k m = record { holds = c.self.invariant; view = c.self.view_is; inside = c.requires.site; is = c.index.ensures } in
     let is = c.index.ensures in
+    let p : Placed c.args.self.now v f v2 ms k m = record { holds = c.self.invariant; view = c.self.view_is; inside = c.requires.site; is = is } in
     let seen = asked p (λ (x : Site). i < x.seen) c.requires.seen in
     let e = ap (λ (x : Site). x.seen) c.site.ensures.site in
     omega (arith, seen, e)
@@ -56,18 +56,19 @@ known_from-requires-clause-seen g c =
     let ms = s.members.items in
     let k = c.args.k in
     let i = c.args.i in
+    let live = c.args.live in
     let inside = room c.args.self.now v f v2 ms k c.self.invariant c.self.view_is c.requires.site in
     let m = c.index.result.now in
-    let p : Placed c.args.self.now v f v2 ms k m = record { holds = c.self.invariant; view = c.self.view_is; inside = c.requires.site; is = c.index.ensures } in
     let is = c.index.ensures in
+    let p : Placed c.args.self.now v f v2 ms k m = record { holds = c.self.invariant; view = c.self.view_is; inside = c.requires.site; is = is } in
     let seen = asked p (λ (x : Site). i < x.seen) c.requires.seen in
     let e = ap (λ (x : Site). x.seen) c.site.ensures.site in
-    let n = ap (λ (ps : List Parcel). length ps) c.committed.ensures in
+    let n = ap (λ (ps : List Parcel). length ps) c.committed.ensures.entries in
     let within = seen_within v f v2 ms c.self.invariant k m inside is in
     omega (arith, within, e, n)
 
-pub reversal-requires-clause-within : goal.reversal-requires-clause-within
-reversal-requires-clause-within g c =
+pub back_of-requires-clause-some : goal.back_of-requires-clause-some
+back_of-requires-clause-some g c =
     let s = c.self.inside in
     let v = s.values in
     let f = s.first.items in
@@ -75,20 +76,19 @@ reversal-requires-clause-within g c =
     let ms = s.members.items in
     let k = c.args.k in
     let i = c.args.i in
+    let live = c.args.live in
     let inside = room c.args.self.now v f v2 ms k c.self.invariant c.self.view_is c.requires.site in
     let m = c.index.result.now in
-    let p : Placed c.args.self.now v f v2 ms k m = record { holds = c.self.invariant; view = c.self.view_is; inside = c.requires.site; is = c.index.ensures } in
     let is = c.index.ensures in
+    let p : Placed c.args.self.now v f v2 ms k m = record { holds = c.self.invariant; view = c.self.view_is; inside = c.requires.site; is = is } in
     let seen = asked p (λ (x : Site). i < x.seen) c.requires.seen in
-    let later = map parcel_by_value c.as_slice.result.now in
-    let part : later ≡ drop i (entries_of v2.committed c.index.result.now.site) =
-    c.as_slice.ensures.values ∙ (c.in_ok-known.ensures ∙ (ap (λ cs. drop i (entries_of cs c.site.result.now.site)) c.committed.ensures ∙ ap (λ (x : Site). drop i (entries_of v2.committed x)) c.site.ensures.site)) in
-    let some = some_later v f v2 ms c.self.invariant k m inside is i seen later part in
-    let n = length-map c.as_slice.result.now parcel_by_value in
-    omega (arith, some, n)
+    let cs = c.as_slice.result.now in
+    let later = later_hinted cs c.in_ok-known.known c.committed.result.now v2 c.site.result.now.site m.site i c.as_slice.ensures.values c.in_ok-known.ensures.entries c.in_ok-known.ensures.hints
+    c.committed.ensures.entries c.committed.ensures.hints c.site.ensures.site in
+    some_later v f v2 ms c.self.invariant k m inside is i seen cs later
 
-pub reversal-requires-clause-run : goal.reversal-requires-clause-run
-reversal-requires-clause-run g c =
+pub back_of-requires-clause-run : goal.back_of-requires-clause-run
+back_of-requires-clause-run g c =
     let s = c.self.inside in
     let v = s.values in
     let f = s.first.items in
@@ -96,15 +96,16 @@ reversal-requires-clause-run g c =
     let ms = s.members.items in
     let k = c.args.k in
     let i = c.args.i in
+    let live = c.args.live in
     let inside = room c.args.self.now v f v2 ms k c.self.invariant c.self.view_is c.requires.site in
     let m = c.index.result.now in
-    let p : Placed c.args.self.now v f v2 ms k m = record { holds = c.self.invariant; view = c.self.view_is; inside = c.requires.site; is = c.index.ensures } in
     let is = c.index.ensures in
+    let p : Placed c.args.self.now v f v2 ms k m = record { holds = c.self.invariant; view = c.self.view_is; inside = c.requires.site; is = is } in
     let seen = asked p (λ (x : Site). i < x.seen) c.requires.seen in
-    let later = map parcel_by_value c.as_slice.result.now in
-    let part : later ≡ drop i (entries_of v2.committed c.index.result.now.site) =
-    c.as_slice.ensures.values ∙ (c.in_ok-known.ensures ∙ (ap (λ cs. drop i (entries_of cs c.site.result.now.site)) c.committed.ensures ∙ ap (λ (x : Site). drop i (entries_of v2.committed x)) c.site.ensures.site)) in
-    later_may v f v2 ms c.self.invariant k m inside is i seen later part c.entries_are_taken_back.ensures.run
+    let cs = c.as_slice.result.now in
+    let later = later_hinted cs c.in_ok-known.known c.committed.result.now v2 c.site.result.now.site m.site i c.as_slice.ensures.values c.in_ok-known.ensures.entries c.in_ok-known.ensures.hints
+    c.committed.ensures.entries c.committed.ensures.hints c.site.ensures.site in
+    later_run v f v2 ms c.self.invariant k m inside is i seen cs later
 
 pub returns-in_err-back-clause-refused : goal.returns-in_err-back-clause-refused
 returns-in_err-back-clause-refused g c =
@@ -115,21 +116,25 @@ returns-in_err-back-clause-refused g c =
     let ms = s.members.items in
     let k = c.args.k in
     let i = c.args.i in
+    let live = c.args.live in
     let inside = room c.args.self.now v f v2 ms k c.self.invariant c.self.view_is c.requires.site in
     let m = c.index.result.now in
-    let p : Placed c.args.self.now v f v2 ms k m = record { holds = c.self.invariant; view = c.self.view_is; inside = c.requires.site; is = c.index.ensures } in
     let is = c.index.ensures in
+    let p : Placed c.args.self.now v f v2 ms k m = record { holds = c.self.invariant; view = c.self.view_is; inside = c.requires.site; is = is } in
     let seen = asked p (λ (x : Site). i < x.seen) c.requires.seen in
-    let later = map parcel_by_value c.as_slice.result.now in
-    let part : later ≡ drop i (entries_of v2.committed c.index.result.now.site) =
-    c.as_slice.ensures.values ∙ (c.in_ok-known.ensures ∙ (ap (λ cs. drop i (entries_of cs c.site.result.now.site)) c.committed.ensures ∙ ap (λ (x : Site). drop i (entries_of v2.committed x)) c.site.ensures.site)) in
+    let cs = c.as_slice.result.now in
+    let later = later_hinted cs c.in_ok-known.known c.committed.result.now v2 c.site.result.now.site m.site i c.as_slice.ensures.values c.in_ok-known.ensures.entries c.in_ok-known.ensures.hints
+    c.committed.ensures.entries c.committed.ensures.hints c.site.ensures.site in
     let committed : v2.committed ≡ c.args.self.now.session.committed = ap (λ (x : Shared). x.session.committed) c.self.view_is in
+    let hints : v2.hints ≡ c.args.self.now.session.hints = ap (λ (x : Shared). x.session.hints) c.self.view_is in
     let why = c.in_err-back.field-0.0 in
     let q = err_from_is_err_and c.from_residual-in_err-back.result c.from_residual-in_err-back.ensures.1 in
+    let revoked = later_revoked v f v2 ms c.self.invariant k m inside is i seen cs later live c.entries_are_taken_back.ensures.later c.entries_are_taken_back.ensures.counting in
     rw (q.1, q.2)
-    (told p (λ (x : Site). IsRevokeRefusal (revoke (entries_of c.args.self.now.session.committed x) i) why)
-    (subst (λ cs. IsRevokeRefusal (revoke (entries_of cs m.site) i) why) committed
-    (subst (λ r. IsRevokeRefusal r why) (later_revoked v f v2 ms c.self.invariant k m inside is i seen later part c.entries_are_taken_back.ensures.later) c.in_err-back.ensures.refused)))
+    (told p (λ (x : Site). IsLiveRefusal (revocation live (hinted_entries c.args.self.now.session.committed c.args.self.now.session.hints x) i) why)
+    (subst (λ ps. IsLiveRefusal (revocation live (hinted_entries ps c.args.self.now.session.hints m.site) i) why) committed
+    (subst (λ hs. IsLiveRefusal (revocation live (hinted_entries v2.committed hs m.site) i) why) hints
+    (subst (λ r. IsLiveRefusal r why) revoked c.in_err-back.ensures.refused))))
 
 pub adopt-requires-clause-run : goal.adopt-requires-clause-run
 adopt-requires-clause-run g c =
@@ -140,18 +145,20 @@ adopt-requires-clause-run g c =
     let ms = s.members.items in
     let k = c.args.k in
     let i = c.args.i in
+    let live = c.args.live in
     let inside = room c.args.self.now v f v2 ms k c.self.invariant c.self.view_is c.requires.site in
     let m = c.index_mut.result.now in
-    let p : Placed c.args.self.now v f v2 ms k m = record { holds = c.self.invariant; view = c.self.view_is; inside = c.requires.site; is = c.index_mut.ensures.value } in
     let is = c.index_mut.ensures.value in
+    let p : Placed c.args.self.now v f v2 ms k m = record { holds = c.self.invariant; view = c.self.view_is; inside = c.requires.site; is = is } in
     let seen = asked p (λ (x : Site). i < x.seen) c.requires.seen in
-    let later = map parcel_by_value c.as_slice.result.now in
-    let part : later ≡ drop i (entries_of v2.committed c.index.result.now.site) =
-    c.as_slice.ensures.values ∙ (c.in_ok-known.ensures ∙ (ap (λ cs. drop i (entries_of cs c.site.result.now.site)) c.committed.ensures ∙ ap (λ (x : Site). drop i (entries_of v2.committed x)) c.site.ensures.site)) in
     let one : c.index.result.now ≡ m = one_place ms k c.index.result.now m inside c.index.ensures is in
-    let is_later : later ≡ drop i (entries_of v2.committed m.site) = part ∙ ap (λ (x : Sender). drop i (entries_of v2.committed x.site)) one in
+    let cs = c.as_slice.result.now in
+    let later = later_hinted cs c.in_ok-known.known c.committed.result.now v2 c.site.result.now.site m.site i c.as_slice.ensures.values c.in_ok-known.ensures.entries c.in_ok-known.ensures.hints
+    c.committed.ensures.entries c.committed.ensures.hints (c.site.ensures.site ∙ ap (λ (x : Sender). x.site) one) in
+    let matter = c.entries_are_taken_back.ensures.later in
+    let count = c.entries_are_taken_back.ensures.counting in
     let back = parcel_by_value c.in_ok-back.back in
-    back_runs v f v2 ms c.self.invariant k m inside is i seen later is_later c.entries_are_taken_back.ensures.later back c.in_ok-back.ensures.back
+    back_runs v f v2 ms c.self.invariant k m inside is i seen cs later live matter count back c.in_ok-back.ensures.back
 
 pub returns-in_err-adopt-clause-steps : goal.returns-in_err-adopt-clause-steps
 returns-in_err-adopt-clause-steps g c =
@@ -162,22 +169,26 @@ returns-in_err-adopt-clause-steps g c =
     let ms = s.members.items in
     let k = c.args.k in
     let i = c.args.i in
+    let live = c.args.live in
     let inside = room c.args.self.now v f v2 ms k c.self.invariant c.self.view_is c.requires.site in
     let m = c.index_mut.result.now in
-    let p : Placed c.args.self.now v f v2 ms k m = record { holds = c.self.invariant; view = c.self.view_is; inside = c.requires.site; is = c.index_mut.ensures.value } in
     let is = c.index_mut.ensures.value in
+    let p : Placed c.args.self.now v f v2 ms k m = record { holds = c.self.invariant; view = c.self.view_is; inside = c.requires.site; is = is } in
     let seen = asked p (λ (x : Site). i < x.seen) c.requires.seen in
-    let later = map parcel_by_value c.as_slice.result.now in
-    let part : later ≡ drop i (entries_of v2.committed c.index.result.now.site) =
-    c.as_slice.ensures.values ∙ (c.in_ok-known.ensures ∙ (ap (λ cs. drop i (entries_of cs c.site.result.now.site)) c.committed.ensures ∙ ap (λ (x : Site). drop i (entries_of v2.committed x)) c.site.ensures.site)) in
     let one : c.index.result.now ≡ m = one_place ms k c.index.result.now m inside c.index.ensures is in
-    let is_later : later ≡ drop i (entries_of v2.committed m.site) = part ∙ ap (λ (x : Sender). drop i (entries_of v2.committed x.site)) one in
+    let cs = c.as_slice.result.now in
+    let later = later_hinted cs c.in_ok-known.known c.committed.result.now v2 c.site.result.now.site m.site i c.as_slice.ensures.values c.in_ok-known.ensures.entries c.in_ok-known.ensures.hints
+    c.committed.ensures.entries c.committed.ensures.hints (c.site.ensures.site ∙ ap (λ (x : Sender). x.site) one) in
+    let matter = c.entries_are_taken_back.ensures.later in
+    let count = c.entries_are_taken_back.ensures.counting in
     let back = parcel_by_value c.in_ok-back.back in
     let committed : v2.committed ≡ c.args.self.now.session.committed = ap (λ (x : Shared). x.session.committed) c.self.view_is in
-    told p (λ (x : Site). c.adopt.new.steps ≤ c.args.steps.now + steps_over (revoking c.args.self.now.session.committed i x) x.replica.items)
-    (subst (λ cs. c.adopt.new.steps ≤ c.args.steps.now + steps_over (revoking cs i m.site) m.site.replica.items) committed
-    (subst (λ (ts : List Transaction). c.adopt.new.steps ≤ c.args.steps.now + steps_over ts m.site.replica.items)
-    (back_is v f v2 ms c.self.invariant k m inside is i seen later is_later c.entries_are_taken_back.ensures.later back c.in_ok-back.ensures.back) c.adopt.ensures.steps))
+    let hints : v2.hints ≡ c.args.self.now.session.hints = ap (λ (x : Shared). x.session.hints) c.self.view_is in
+    let stepped = back_is v f v2 ms c.self.invariant k m inside is i seen cs later live matter count back c.in_ok-back.ensures.back in
+    told p (λ (x : Site). c.adopt.new.steps ≤ c.args.steps.now + steps_over (revoking c.args.self.now.session.committed c.args.self.now.session.hints live i x) x.replica.items)
+    (subst (λ ps. c.adopt.new.steps ≤ c.args.steps.now + steps_over (revoking ps c.args.self.now.session.hints live i m.site) m.site.replica.items) committed
+    (subst (λ hs. c.adopt.new.steps ≤ c.args.steps.now + steps_over (revoking v2.committed hs live i m.site) m.site.replica.items) hints
+    (subst (λ (ts : List Transaction). c.adopt.new.steps ≤ c.args.steps.now + steps_over ts m.site.replica.items) stepped c.adopt.ensures.steps)))
 
 pub returns-clause-steps : goal.returns-clause-steps
 returns-clause-steps g c =
@@ -188,22 +199,26 @@ returns-clause-steps g c =
     let ms = s.members.items in
     let k = c.args.k in
     let i = c.args.i in
+    let live = c.args.live in
     let inside = room c.args.self.now v f v2 ms k c.self.invariant c.self.view_is c.requires.site in
     let m = c.index_mut.result.now in
-    let p : Placed c.args.self.now v f v2 ms k m = record { holds = c.self.invariant; view = c.self.view_is; inside = c.requires.site; is = c.index_mut.ensures.value } in
     let is = c.index_mut.ensures.value in
+    let p : Placed c.args.self.now v f v2 ms k m = record { holds = c.self.invariant; view = c.self.view_is; inside = c.requires.site; is = is } in
     let seen = asked p (λ (x : Site). i < x.seen) c.requires.seen in
-    let later = map parcel_by_value c.as_slice.result.now in
-    let part : later ≡ drop i (entries_of v2.committed c.index.result.now.site) =
-    c.as_slice.ensures.values ∙ (c.in_ok-known.ensures ∙ (ap (λ cs. drop i (entries_of cs c.site.result.now.site)) c.committed.ensures ∙ ap (λ (x : Site). drop i (entries_of v2.committed x)) c.site.ensures.site)) in
     let one : c.index.result.now ≡ m = one_place ms k c.index.result.now m inside c.index.ensures is in
-    let is_later : later ≡ drop i (entries_of v2.committed m.site) = part ∙ ap (λ (x : Sender). drop i (entries_of v2.committed x.site)) one in
+    let cs = c.as_slice.result.now in
+    let later = later_hinted cs c.in_ok-known.known c.committed.result.now v2 c.site.result.now.site m.site i c.as_slice.ensures.values c.in_ok-known.ensures.entries c.in_ok-known.ensures.hints
+    c.committed.ensures.entries c.committed.ensures.hints (c.site.ensures.site ∙ ap (λ (x : Sender). x.site) one) in
+    let matter = c.entries_are_taken_back.ensures.later in
+    let count = c.entries_are_taken_back.ensures.counting in
     let back = parcel_by_value c.in_ok-back.back in
     let committed : v2.committed ≡ c.args.self.now.session.committed = ap (λ (x : Shared). x.session.committed) c.self.view_is in
-    told p (λ (x : Site). c.adopt.new.steps ≤ c.args.steps.now + steps_over (revoking c.args.self.now.session.committed i x) x.replica.items)
-    (subst (λ cs. c.adopt.new.steps ≤ c.args.steps.now + steps_over (revoking cs i m.site) m.site.replica.items) committed
-    (subst (λ (ts : List Transaction). c.adopt.new.steps ≤ c.args.steps.now + steps_over ts m.site.replica.items)
-    (back_is v f v2 ms c.self.invariant k m inside is i seen later is_later c.entries_are_taken_back.ensures.later back c.in_ok-back.ensures.back) c.adopt.ensures.steps))
+    let hints : v2.hints ≡ c.args.self.now.session.hints = ap (λ (x : Shared). x.session.hints) c.self.view_is in
+    let stepped = back_is v f v2 ms c.self.invariant k m inside is i seen cs later live matter count back c.in_ok-back.ensures.back in
+    told p (λ (x : Site). c.adopt.new.steps ≤ c.args.steps.now + steps_over (revoking c.args.self.now.session.committed c.args.self.now.session.hints live i x) x.replica.items)
+    (subst (λ ps. c.adopt.new.steps ≤ c.args.steps.now + steps_over (revoking ps c.args.self.now.session.hints live i m.site) m.site.replica.items) committed
+    (subst (λ hs. c.adopt.new.steps ≤ c.args.steps.now + steps_over (revoking v2.committed hs live i m.site) m.site.replica.items) hints
+    (subst (λ (ts : List Transaction). c.adopt.new.steps ≤ c.args.steps.now + steps_over ts m.site.replica.items) stepped c.adopt.ensures.steps)))
 
 pub invariant_of-self-2 : goal.invariant_of-self-2
 invariant_of-self-2 g c =
@@ -214,23 +229,27 @@ invariant_of-self-2 g c =
     let ms = s.members.items in
     let k = c.args.k in
     let i = c.args.i in
+    let live = c.args.live in
     let inside = room c.args.self.now v f v2 ms k c.self.invariant c.self.view_is c.requires.site in
     let m = c.index_mut.result.now in
-    let p : Placed c.args.self.now v f v2 ms k m = record { holds = c.self.invariant; view = c.self.view_is; inside = c.requires.site; is = c.index_mut.ensures.value } in
     let is = c.index_mut.ensures.value in
+    let p : Placed c.args.self.now v f v2 ms k m = record { holds = c.self.invariant; view = c.self.view_is; inside = c.requires.site; is = is } in
     let seen = asked p (λ (x : Site). i < x.seen) c.requires.seen in
-    let later = map parcel_by_value c.as_slice.result.now in
-    let part : later ≡ drop i (entries_of v2.committed c.index.result.now.site) =
-    c.as_slice.ensures.values ∙ (c.in_ok-known.ensures ∙ (ap (λ cs. drop i (entries_of cs c.site.result.now.site)) c.committed.ensures ∙ ap (λ (x : Site). drop i (entries_of v2.committed x)) c.site.ensures.site)) in
     let one : c.index.result.now ≡ m = one_place ms k c.index.result.now m inside c.index.ensures is in
-    let is_later : later ≡ drop i (entries_of v2.committed m.site) = part ∙ ap (λ (x : Sender). drop i (entries_of v2.committed x.site)) one in
+    let cs = c.as_slice.result.now in
+    let later = later_hinted cs c.in_ok-known.known c.committed.result.now v2 c.site.result.now.site m.site i c.as_slice.ensures.values c.in_ok-known.ensures.entries c.in_ok-known.ensures.hints
+    c.committed.ensures.entries c.committed.ensures.hints (c.site.ensures.site ∙ ap (λ (x : Sender). x.site) one) in
+    let matter = c.entries_are_taken_back.ensures.later in
+    let count = c.entries_are_taken_back.ensures.counting in
     let back = parcel_by_value c.in_ok-back.back in
     let t = c.adopt.new.self in
-    let gives = revoke_gives v f v2 ms c.self.invariant k m inside is i seen later is_later c.entries_are_taken_back.ensures.later back c.in_ok-back.ensures.back in
-    let site : t.site ≡ with_entry back m.site = ap (λ (x : Sender). x.site) c.in_ok-adopt.ensures.site in
-    let done : revoke_entry v2.committed i m.site ≡ Ok t.site = gives ∙ ap (λ (x : Site). Ok x) (sym site) in
-    let same : t ≡ at_site t.site m = c.in_ok-adopt.ensures.site ∙ ap (λ (x : Site). at_site x m) (sym site) in
-    revoked_stays p t i seen done same
+    let gives = revoke_gives v f v2 ms c.self.invariant k m inside is i seen cs later live matter count back c.in_ok-back.ensures.back in
+    let adopted : t ≡ at_site (with_entry_against (Some i) back m.site) m =
+    c.in_ok-adopt.ensures.site ∙ ap (λ o. at_site (with_entry_against o back m.site) m) c.in_ok-back.ensures.takes_back in
+    let site : t.site ≡ with_entry_against (Some i) back m.site = ap (λ (x : Sender). x.site) adopted in
+    let done : revoke_entry v2.committed v2.hints live i m.site ≡ Ok t.site = gives ∙ ap (λ (x : Site). Ok x) (sym site) in
+    let same : t ≡ at_site t.site m = adopted ∙ ap (λ (x : Site). at_site x m) (sym site) in
+    revoked_stays p t live i seen done same
 
 pub returns-clause-site : goal.returns-clause-site
 returns-clause-site g c =
@@ -241,25 +260,31 @@ returns-clause-site g c =
     let ms = s.members.items in
     let k = c.args.k in
     let i = c.args.i in
+    let live = c.args.live in
     let inside = room c.args.self.now v f v2 ms k c.self.invariant c.self.view_is c.requires.site in
     let m = c.index_mut.result.now in
-    let p : Placed c.args.self.now v f v2 ms k m = record { holds = c.self.invariant; view = c.self.view_is; inside = c.requires.site; is = c.index_mut.ensures.value } in
     let is = c.index_mut.ensures.value in
+    let p : Placed c.args.self.now v f v2 ms k m = record { holds = c.self.invariant; view = c.self.view_is; inside = c.requires.site; is = is } in
     let seen = asked p (λ (x : Site). i < x.seen) c.requires.seen in
-    let later = map parcel_by_value c.as_slice.result.now in
-    let part : later ≡ drop i (entries_of v2.committed c.index.result.now.site) =
-    c.as_slice.ensures.values ∙ (c.in_ok-known.ensures ∙ (ap (λ cs. drop i (entries_of cs c.site.result.now.site)) c.committed.ensures ∙ ap (λ (x : Site). drop i (entries_of v2.committed x)) c.site.ensures.site)) in
     let one : c.index.result.now ≡ m = one_place ms k c.index.result.now m inside c.index.ensures is in
-    let is_later : later ≡ drop i (entries_of v2.committed m.site) = part ∙ ap (λ (x : Sender). drop i (entries_of v2.committed x.site)) one in
+    let cs = c.as_slice.result.now in
+    let later = later_hinted cs c.in_ok-known.known c.committed.result.now v2 c.site.result.now.site m.site i c.as_slice.ensures.values c.in_ok-known.ensures.entries c.in_ok-known.ensures.hints
+    c.committed.ensures.entries c.committed.ensures.hints (c.site.ensures.site ∙ ap (λ (x : Sender). x.site) one) in
+    let matter = c.entries_are_taken_back.ensures.later in
+    let count = c.entries_are_taken_back.ensures.counting in
     let back = parcel_by_value c.in_ok-back.back in
-    let t = c.adopt.new.self in
-    let gives = revoke_gives v f v2 ms c.self.invariant k m inside is i seen later is_later c.entries_are_taken_back.ensures.later back c.in_ok-back.ensures.back in
-    let site : t.site ≡ with_entry back m.site = ap (λ (x : Sender). x.site) c.in_ok-adopt.ensures.site in
-    let done : revoke_entry v2.committed i m.site ≡ Ok t.site = gives ∙ ap (λ (x : Site). Ok x) (sym site) in
-    let same : t ≡ at_site t.site m = c.in_ok-adopt.ensures.site ∙ ap (λ (x : Site). at_site x m) (sym site) in
     let committed : v2.committed ≡ c.args.self.now.session.committed = ap (λ (x : Shared). x.session.committed) c.self.view_is in
-    told_both p (λ (x y : Site). revoke_entry c.args.self.now.session.committed i x ≡ Ok y) t
-    (subst (λ cs. revoke_entry cs i m.site ≡ Ok t.site) committed done)
+    let hints : v2.hints ≡ c.args.self.now.session.hints = ap (λ (x : Shared). x.session.hints) c.self.view_is in
+    let t = c.adopt.new.self in
+    let gives = revoke_gives v f v2 ms c.self.invariant k m inside is i seen cs later live matter count back c.in_ok-back.ensures.back in
+    let adopted : t ≡ at_site (with_entry_against (Some i) back m.site) m =
+    c.in_ok-adopt.ensures.site ∙ ap (λ o. at_site (with_entry_against o back m.site) m) c.in_ok-back.ensures.takes_back in
+    let site : t.site ≡ with_entry_against (Some i) back m.site = ap (λ (x : Sender). x.site) adopted in
+    let done : revoke_entry v2.committed v2.hints live i m.site ≡ Ok t.site = gives ∙ ap (λ (x : Site). Ok x) (sym site) in
+    let same : t ≡ at_site t.site m = adopted ∙ ap (λ (x : Site). at_site x m) (sym site) in
+    told_both p (λ (x y : Site). revoke_entry c.args.self.now.session.committed c.args.self.now.session.hints live i x ≡ Ok y) t
+    (subst (λ ps. revoke_entry ps c.args.self.now.session.hints live i m.site ≡ Ok t.site) committed
+    (subst (λ hs. revoke_entry v2.committed hs live i m.site ≡ Ok t.site) hints done))
 
 pub returns-clause-same : goal.returns-clause-same
 returns-clause-same g c =
@@ -270,20 +295,24 @@ returns-clause-same g c =
     let ms = s.members.items in
     let k = c.args.k in
     let i = c.args.i in
+    let live = c.args.live in
     let inside = room c.args.self.now v f v2 ms k c.self.invariant c.self.view_is c.requires.site in
     let m = c.index_mut.result.now in
-    let p : Placed c.args.self.now v f v2 ms k m = record { holds = c.self.invariant; view = c.self.view_is; inside = c.requires.site; is = c.index_mut.ensures.value } in
     let is = c.index_mut.ensures.value in
+    let p : Placed c.args.self.now v f v2 ms k m = record { holds = c.self.invariant; view = c.self.view_is; inside = c.requires.site; is = is } in
     let seen = asked p (λ (x : Site). i < x.seen) c.requires.seen in
-    let later = map parcel_by_value c.as_slice.result.now in
-    let part : later ≡ drop i (entries_of v2.committed c.index.result.now.site) =
-    c.as_slice.ensures.values ∙ (c.in_ok-known.ensures ∙ (ap (λ cs. drop i (entries_of cs c.site.result.now.site)) c.committed.ensures ∙ ap (λ (x : Site). drop i (entries_of v2.committed x)) c.site.ensures.site)) in
     let one : c.index.result.now ≡ m = one_place ms k c.index.result.now m inside c.index.ensures is in
-    let is_later : later ≡ drop i (entries_of v2.committed m.site) = part ∙ ap (λ (x : Sender). drop i (entries_of v2.committed x.site)) one in
+    let cs = c.as_slice.result.now in
+    let later = later_hinted cs c.in_ok-known.known c.committed.result.now v2 c.site.result.now.site m.site i c.as_slice.ensures.values c.in_ok-known.ensures.entries c.in_ok-known.ensures.hints
+    c.committed.ensures.entries c.committed.ensures.hints (c.site.ensures.site ∙ ap (λ (x : Sender). x.site) one) in
+    let matter = c.entries_are_taken_back.ensures.later in
+    let count = c.entries_are_taken_back.ensures.counting in
     let back = parcel_by_value c.in_ok-back.back in
     let t = c.adopt.new.self in
-    let gives = revoke_gives v f v2 ms c.self.invariant k m inside is i seen later is_later c.entries_are_taken_back.ensures.later back c.in_ok-back.ensures.back in
-    let site : t.site ≡ with_entry back m.site = ap (λ (x : Sender). x.site) c.in_ok-adopt.ensures.site in
-    let done : revoke_entry v2.committed i m.site ≡ Ok t.site = gives ∙ ap (λ (x : Site). Ok x) (sym site) in
-    let same : t ≡ at_site t.site m = c.in_ok-adopt.ensures.site ∙ ap (λ (x : Site). at_site x m) (sym site) in
+    let gives = revoke_gives v f v2 ms c.self.invariant k m inside is i seen cs later live matter count back c.in_ok-back.ensures.back in
+    let adopted : t ≡ at_site (with_entry_against (Some i) back m.site) m =
+    c.in_ok-adopt.ensures.site ∙ ap (λ o. at_site (with_entry_against o back m.site) m) c.in_ok-back.ensures.takes_back in
+    let site : t.site ≡ with_entry_against (Some i) back m.site = ap (λ (x : Sender). x.site) adopted in
+    let done : revoke_entry v2.committed v2.hints live i m.site ≡ Ok t.site = gives ∙ ap (λ (x : Site). Ok x) (sym site) in
+    let same : t ≡ at_site t.site m = adopted ∙ ap (λ (x : Site). at_site x m) (sym site) in
     with_its_site p t same
