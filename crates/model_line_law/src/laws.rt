@@ -14,8 +14,8 @@ pub fn opened_pages_are_utf8()
 {}
 
 /// With no premise on the page, its items are a sound list, and each of them may stand. So may each
-/// item of each site's list. A site that has the page's items writes the page as it was opened, byte
-/// for byte.
+/// item of each site's list. A site that has the page's items writes the page as it was opened,
+/// byte for byte.
 pub fn pages_of_lines_stand()
     ensures opened { OpenedItemsStand }
     ensures items { ItemsStandAfterLines }

@@ -91,7 +91,7 @@ written (change.NoOrigin origin) f s = tt
 
 -- ---- what holds of whatever is completed
 
-with_ok : {A B : Type 0} (P : A → Type 0) (Q : B → Type 0) (f : A → Result B ℕ) (r : Result A ℕ) → OfOk P r → ((x : A) → P x → OfOk Q (f x)) →
+pub with_ok : {A B : Type 0} (P : A → Type 0) (Q : B → Type 0) (f : A → Result B ℕ) (r : Result A ℕ) → OfOk P r → ((x : A) → P x → OfOk Q (f x)) →
     OfOk Q (elim r as (λ _. Result B ℕ) [ Err origin ↦ Err origin | Ok x ↦ f x ])
 with_ok P Q f (Err origin) p h = tt
 with_ok P Q f (Ok x) p h = h x p

@@ -30,3 +30,6 @@ mod AheadExamples
 pub mod PutBackLemmas
 pub mod PutBackChange
 mod PutBackExamples
+pub mod OriginEdits
+pub mod OriginChanges
+pub mod FirstOrigins

@@ -18,9 +18,10 @@ use Rattle.model_page.specs.Heads.{whole_head}
 use Rattle.model_page.specs.Pieces.{Made, Progress, past, with_white, leaf_before}
 use Rattle.model_page.specs.Convert.{inside_piece, made_of}
 use Rattle.model_page.specs.Fragment.{may_hold_tag, fits_content, fits_structural, fits_in, context_of, item_unmade, pieces_in, fragment_items}
+use Rattle.model_page_law.specs.Origins.{origins_of}
 use Rattle.model_page_law.proofs.KindFits.{Sane, Matches, matches, element_of_tag}
 use Rattle.model_page_law.proofs.NestLemmas as nest
-use Rattle.model_page_law.proofs.NestLemmas.{Closes, Nests, Holds, Meets, Meets-run_closed, Meets-made_of}
+use Rattle.model_page_law.proofs.NestLemmas.{Closes, Nests, Holds, Meets, unplaced, Meets-run_closed, Meets-made_of}
 use Rattle.model_edit_law.specs.InsertLaws.{innermost, are_children, FragmentStaysLawful}
 use Rattle.model_world_law.specs.Pasted.{FragmentsAreChildren, PastingStaysLawful}
 
@@ -202,20 +203,31 @@ context_fits parts (k ∷ outer) = by (fits_in parts k) refl (context_fits parts
 abbrev AreOfSome : List PlainItem → Type 0
 AreOfSome items = (parent : Kind) × (are_children parent [] items ≡ true)
 
-pieces_are : (k : Kind) (parts : Parts) → (k ≡ Root) ⊎ (fits_in parts k ≡ true) → AreOfSome (map item_unmade (pieces_in k parts).later.items)
-pieces_are k parts fits =
-    elim (sane_or_idle k) [
-      | inl sane ↦ (k, children_unmade k [] (pieces_in k parts).later.items (sane_holds k sane parts))
-      | inr idle ↦ (Table, children_unmade Table [] (pieces_in k parts).later.items (idle_holds k idle parts (fits_idle k idle parts (not_root fits idle))))
-    ]
+not_root : (k : Kind) (parts : Parts) → (k ≡ Root) ⊎ (fits_in parts k ≡ true) → IsIdle k → fits_in parts k ≡ true
+not_root k parts (inl root) idle = absurd (flows (is_flow k) (ap is_flow root) idle.flow)
   where
-    not_root : (k ≡ Root) ⊎ (fits_in parts k ≡ true) → IsIdle k → fits_in parts k ≡ true
-    not_root (inl root) idle = absurd (flows (is_flow k) (ap is_flow root) idle.flow)
-      where
-        flows : (b : Bool) → b ≡ true → b ≡ false → ⊥
-        flows true e f = cc
-        flows false e f = cc
-    not_root (inr fit) idle = fit
+    flows : (b : Bool) → b ≡ true → b ≡ false → ⊥
+    flows true e f = cc
+    flows false e f = cc
+not_root k parts (inr fit) idle = fit
+
+-- they nest, in that kind or in a table
+abbrev NestsInSome : List PlainItem → Type 0
+NestsInSome items = (parent : Kind) × Holds parent items
+
+pieces_nest : (k : Kind) (parts : Parts) → (k ≡ Root) ⊎ (fits_in parts k ≡ true) → NestsInSome (pieces_in k parts).later.items
+pieces_nest k parts fits =
+    elim (sane_or_idle k) [
+      | inl sane ↦ (k, sane_holds k sane parts)
+      | inr idle ↦ (Table, idle_holds k idle parts (fits_idle k idle parts (not_root k parts fits idle)))
+    ]
+
+pieces_are : (k : Kind) (parts : Parts) → (k ≡ Root) ⊎ (fits_in parts k ≡ true) → AreOfSome (map item_unmade (pieces_in k parts).later.items)
+pieces_are k parts fits = let p = pieces_nest k parts fits in (p.0, children_unmade p.0 [] (pieces_in k parts).later.items p.1)
+
+-- so they have no origins
+pub pieces_unplaced : (stack : List Kind) (parts : Parts) → let k = context_of parts stack in origins_of (pieces_in k parts).later.items ≡ []
+pieces_unplaced stack parts = let p = pieces_nest (context_of parts stack) parts (context_fits parts stack) in unplaced p.0 (pieces_in (context_of parts stack) parts).later.items [] [] p.1
 
 -- whitespace alone is a paragraph
 letters_are : (text : List ℕ) → are_children Root (P ∷ []) (map (λ c. Char c []) text ++ Closing P [] ∷ []) ≡ true

@@ -1,6 +1,6 @@
 -- What was read of items that were shown is completed to these items, and so a range that is removed
 -- and put back leaves the list as it is.
-use Rattle.std.proofs.Common.{◌≡◌, ℕ, zero, suc, ◌+◌, ◌-◌, ◌<◌, ◌≤◌, nat_lt, Bool, true, false, not, ◌&&◌, ◌||◌, if◌then◌else◌, List, [], ◌∷◌, ◌++◌, length, map, take, drop, slice_range, Option, Some, None, Result, Ok, Err, refl, ap, ◌∙◌, arith}
+use Rattle.std.proofs.Common.{◌≡◌, ℕ, zero, suc, ◌+◌, ◌-◌, ◌<◌, ◌≤◌, nat_lt, Bool, true, false, not, ◌&&◌, ◌||◌, if◌then◌else◌, List, [], ◌∷◌, ◌++◌, length, map, take, drop, slice_range, Option, Some, None, Result, Ok, Err, refl, sym, ap, ◌∙◌, arith}
 use Rattle.std.specs.Prelude.{codes, option_and_then, option_map}
 use Rattle.std.specs.List.{AllByRecursion}
 use Rattle.std.proofs.lemmas.Bool.{and_parts, eq-eqb, lt-ltb}
@@ -10,7 +10,9 @@ use Rattle.ve_base.specs.declared.head.Head.{Head}
 use Rattle.ve_kinds.specs.declared.kind.Kind.{Kind}
 use Rattle.ve_kinds.specs.declared.kind.Kind.TheVariants.{P}
 use Rattle.ve_kinds.specs.Table.{is_element, kind_same}
-use Rattle.model_items.proofs.SameLemmas.{Means-kind_same}
+use Rattle.model_items.proofs.SameLemmas.{Means-head_same}
+use Rattle.model_items.specs.Same.{head_same}
+use Rattle.model_site_law.specs.ItemLaws.{AllPass}
 use Rattle.model_items.specs.declared.plain_item.PlainItem.{PlainItem}
 use Rattle.model_items.specs.declared.plain_item.PlainItem.TheVariants.{Char, Opening, Closing}
 use Rattle.model_change.specs.Transaction.{Transaction, edited}
@@ -20,29 +22,30 @@ use Rattle.model_world.specs.declared.edit_command.EditCommand.{EditCommand}
 use Rattle.model_world.specs.declared.edit_command.EditCommand.TheVariants as change
 use Rattle.model_world.specs.declared.refusal.Refusal.{Refusal}
 use Rattle.model_world.specs.declared.refusal.Refusal.TheVariants.{BadLength}
-use Rattle.model_world.specs.Completed.{all_completed, head_for, item_completed, op_completed}
+use Rattle.model_world.specs.Completed.{all_completed, head_for, item_completed, op_completed, read_for}
 use Rattle.model_world.specs.Edits.{change_of, needs, ops_on}
 use Rattle.model_world.specs.Operations.{op_in, word_is_something, words_are_normal}
 use Rattle.model_world.specs.ItemWords.{all_items_in}
 use Rattle.model_world.specs.Shown.{items_shown, json_number}
 use Rattle.model_world.specs.Values.{all_read, number_in, such_that}
-use Rattle.model_world_law.specs.PutBack.{CanPutBack, HasFirst, PutBackStays, retained_shown, without_head}
+use Rattle.model_world_law.specs.PutBack.{CanPutBack, has_first, is_as_read, PutBackStays, WorldsPutBack, retained_shown, without_head}
 use Rattle.model_world_law.specs.ShownLaws.{plain_head}
 use Rattle.model_page.proofs.OnLiterals.{page_on_literals}
 use Rattle.model_world_law.proofs.ShownLemmas.{listed_back, passes}
+use Rattle.model_world_law.proofs.ReachLemmas.{origins_stay}
 use Rattle.model_world_law.proofs.PutBackLemmas.{exact_is_read, head_read}
 
 -- ---- items completed
 
 -- an element keeps its head, and of another leaf the page has it
-found : (kind : Kind) (head first : Head) → (is_element kind ≡ false → first ≡ head) → head_for kind (head_read kind head) (Some (kind, first)) ≡ Some head
-found kind head first same =
-    ap (λ b. if b then Some (if is_element kind then head_read kind head else first) else None) (Means-kind_same.itself kind)
-    ∙ ap (λ (h : Head). Some h) (by (is_element kind) refl)
+found : (kind : Kind) (head : Head) (first : Kind × Head) → kind_same kind first.0 ≡ true → (is_element kind || head_same head first.1) ≡ true →
+    head_for kind (head_read kind head) (Some first) ≡ Some head
+found kind head first same own =
+    ap (λ b. if b then Some (if is_element kind then head_read kind head else first.1) else None) same ∙ ap (λ (h : Head). Some h) (by (is_element kind) own)
   where
-    by : (b : Bool) → is_element kind ≡ b → (if b then (if b then head else plain_head []) else first) ≡ head
+    by : (b : Bool) → (b || head_same head first.1) ≡ true → (if b then (if b then head else plain_head []) else first.1) ≡ head
     by true e = refl
-    by false e = same e
+    by false e = sym (Means-head_same.equal head first.1 e)
 
 own_head : (kind : Kind) (head : Head) → (is_element kind || false) ≡ true → head_read kind head ≡ head
 own_head kind head h = by (is_element kind) h
@@ -51,19 +54,26 @@ own_head kind head h = by (is_element kind) h
     by true h = refl
     by false h = cc
 
-one_back : (opened : List PlainItem) (item : PlainItem) → CanPutBack item → HasFirst opened item → item_completed opened (without_head item) ≡ Ok item
+one_back : (opened : List PlainItem) (item : PlainItem) → CanPutBack item → has_first opened item ≡ true → item_completed opened (without_head item) ≡ Ok item
 one_back opened (Char c marks) p f = refl
 one_back opened (Closing kind pre) p f = refl
 one_back opened (Opening kind head marks pre None generated) p f =
     ap (λ (h : Head). Ok (Opening kind h marks pre None generated)) (own_head kind head (and_parts (not generated || kind_same kind P) (is_element kind || false) p.6).1)
-one_back opened (Opening kind head marks pre (Some origin) generated) p f =
-    let whole : Option Head → Result PlainItem ℕ = λ o. elim o as (λ _. Result PlainItem ℕ) [
+one_back opened (Opening kind head marks pre (Some origin) generated) p f = by (read_for origin opened) f
+  where
+    by : (o : Option (Kind × Head)) → is_as_read kind head o ≡ true → (elim (head_for kind (head_read kind head) o) as (λ _. Result PlainItem ℕ) [
       | None ↦ Err origin
-      | Some found ↦ Ok (Opening kind found marks pre (Some origin) generated)
-    ] in
-    ap (λ o. whole (head_for kind (head_read kind head) o)) f.read ∙ ap whole (found kind head f.first f.same)
+      | Some h ↦ Ok (Opening kind h marks pre (Some origin) generated)
+    ]) ≡ Ok (Opening kind head marks pre (Some origin) generated)
+    by None f = cc
+    by (Some first) f =
+        let q = and_parts (kind_same kind first.0) (is_element kind || head_same head first.1) f in
+        ap (λ o. elim o as (λ _. Result PlainItem ℕ) [
+          | None ↦ Err origin
+          | Some h ↦ Ok (Opening kind h marks pre (Some origin) generated)
+        ]) (found kind head first q.0 q.1)
 
-all_back : (opened items : List PlainItem) → AllByRecursion CanPutBack items → AllByRecursion (HasFirst opened) items →
+all_back : (opened items : List PlainItem) → AllByRecursion CanPutBack items → AllPass (has_first opened) items →
     all_completed (item_completed opened) (map without_head items) ≡ Ok items
 all_back opened [] p f = refl
 all_back opened (x ∷ xs) p f =
@@ -225,3 +235,19 @@ put_back_stays opened items from to few some within can first =
           ]) (eq-eqb (needs done) (length items) long);
       list = edits_more from (Remove count range ∷ retained last) items ∙ ap (λ xs. take from items ++ xs) (put_back_edits count last (drop from items)) ∙ take-append-drop from items;
     }
+
+pub worlds_put_back : WorldsPutBack
+worlds_put_back lines page w k m from to h e few some within can =
+    let items = m.site.replica.items in
+    put_back_stays page.items items from to few some within can (part from (to - from) items (origins_stay lines page w k m h e))
+  where
+    passed_first : (n : ℕ) (items : List PlainItem) → AllPass (has_first page.items) items → AllPass (has_first page.items) (take n items)
+    passed_first zero items p = tt
+    passed_first (suc n) [] p = tt
+    passed_first (suc n) (item ∷ items) p = (p.0, passed_first n items p.1)
+
+    part : (n count : ℕ) (items : List PlainItem) → AllPass (has_first page.items) items → AllPass (has_first page.items) (take count (drop n items))
+    part zero count items p = passed_first count items p
+    part (suc n) zero [] p = tt
+    part (suc n) (suc count) [] p = tt
+    part (suc n) count (item ∷ items) p = part n count items p.1

@@ -44,7 +44,11 @@ use Rattle.model_site_law.specs.Protocol.{Every}
 use Rattle.model_site_law.proofs.HintLemmas.{hints_stand_beside}
 use Rattle.model_site_law.proofs.ItemLemmas.{items_keep}
 use Rattle.model_world_law.specs.Standing.{may_stand}
+use Rattle.model_world_law.specs.PutBack.{OriginsStay, has_first}
 use Rattle.model_world_law.specs.ViewLines.{teller}
+use Rattle.model_items.specs.declared.plain_item.PlainItem.{PlainItem}
+use Rattle.model_world_law.proofs.FirstOrigins.{page_first}
+use Rattle.model_world_law.proofs.OriginChanges.{setting_stays}
 use Rattle.model_world_law.proofs.ChangeStand.{changes_stand, moves_stand, pages_stand}
 use Rattle.model_world_law.proofs.StandLemmas.{setting_keeps}
 use Rattle.model_world_law.proofs.LinkLemmas.{Stands, LeadsBy, asked_leads}
@@ -65,9 +69,9 @@ within-append : (es fs : List Event) (w : Session) → AllSelectWithin w es → 
 within-append [] fs w p q = q
 within-append (e ∷ es) fs w p q = (p.0, within-append es fs (happens w e) p.1 q)
 
-inserts-append : (es fs : List Event) → AllByRecursion (Inserts may_stand) es → AllByRecursion (Inserts may_stand) fs → AllByRecursion (Inserts may_stand) (es ++ fs)
-inserts-append [] fs p q = q
-inserts-append (e ∷ es) fs p q = (p.0, inserts-append es fs p.1 q)
+inserts-append : (test : PlainItem → Bool) (es fs : List Event) → AllByRecursion (Inserts test) es → AllByRecursion (Inserts test) fs → AllByRecursion (Inserts test) (es ++ fs)
+inserts-append test [] fs p q = q
+inserts-append test (e ∷ es) fs p q = (p.0, inserts-append test es fs p.1 q)
 
 every_from : (P : Member → Type 0) (ms : List Member) → ((k : ℕ) (m : Member) → slice_get ms k ≡ Some m → P m) → Every P ms
 every_from P [] h = tt
@@ -77,6 +81,12 @@ every_from P (m ∷ ms) h = (h 0 m refl, every_from P ms (λ k n e. h (suc k) n 
 reached_stand : (lines : List (List ℕ)) (o : Opened) (w : Session) (k : ℕ) (m : Member) → IsReached lines o w → slice_get w.members k ≡ Some m → IsUtf8 o.page → AllPass may_stand m.site.replica.items
 reached_stand lines o w k m r e u =
     items_keep may_stand (opened_with o.items) r.sites r.events k m setting_keeps r.opens r.may (pages_stand r.text o u r.opened) (r.inserts u)
+    (ap (λ (v : Session). slice_get v.members k) (sym r.same) ∙ e)
+
+-- each opening with an origin is the page's
+reached_first : (lines : List (List ℕ)) (o : Opened) (w : Session) (k : ℕ) (m : Member) → IsReached lines o w → slice_get w.members k ≡ Some m → AllPass (has_first o.items) m.site.replica.items
+reached_first lines o w k m r e =
+    items_keep (has_first o.items) (opened_with o.items) r.sites r.events k m (setting_stays o.items) r.opens r.may (page_first r.text o r.opened) r.origins
     (ap (λ (v : Session). slice_get v.members k) (sym r.same) ∙ e)
 
 -- the base has the page's items, which may stand
@@ -106,14 +116,17 @@ further past line o w next r b =
       opens = r.opens;
       may = may-append r.events b.events start r.may (subst (λ v. AllMayHappen v b.events) r.same b.may);
       within = within-append r.events b.events start r.within (subst (λ v. AllSelectWithin v b.events) r.same b.within);
-      inserts = λ u. inserts-append r.events b.events (r.inserts u) (b.inserts (base_stands past o w r u) (every_from (λ m. AllPass may_stand m.site.replica.items) w.members (λ k m e. reached_stand past o w k m r e u)));
+      inserts = λ u. inserts-append may_stand r.events b.events (r.inserts u) (b.inserts (base_stands past o w r u) (every_from (λ m. AllPass may_stand m.site.replica.items) w.members (λ k m e. reached_stand past o w k m r e u)));
+      origins = inserts-append (has_first o.items) r.events b.events r.origins
+          (subst (λ items. Every (λ m. AllPass (has_first items) m.site.replica.items) w.members → AllByRecursion (Inserts (has_first items)) b.events) (base_items past o w r) b.origins
+          (every_from (λ m. AllPass (has_first o.items) m.site.replica.items) w.members (λ k m e. reached_first past o w k m r e)));
       same = same;
     }
 
 -- a line that changes nothing
 unchanged : (past : List (List ℕ)) (line : List ℕ) (w : World) → WorldReached past w → WorldReached (past ++ line ∷ []) w
 unchanged past line Closed reached = tt
-unchanged past line (Open o w) reached = further {t = None} past line o w w reached (record { events = []; may = tt; within = tt; inserts = λ base every. tt; told = λ k before. refl; same = refl })
+unchanged past line (Open o w) reached = further {t = None} past line o w w reached (record { events = []; may = tt; within = tt; inserts = λ base every. tt; origins = λ every. tt; told = λ k before. refl; same = refl })
 
 -- the site that is asked stands
 pub site_stands : (past : List (List ℕ)) (o : Opened) (w : Session) (k : ℕ) (m : Member) → IsReached past o w → slice_get w.members k ≡ Some m →
@@ -170,6 +183,7 @@ open_reached fit past line page sites c (Ok o) e = record {
   may = tt;
   within = tt;
   inserts = λ u. tt;
+  origins = tt;
   same = refl;
 }
 
@@ -244,6 +258,9 @@ site_holds lines o w k m r e =
 
 pub every_item_stands : EveryItemStands
 every_item_stands lines page w k m h e u = reached_stand lines page w k m (subst (WorldReached lines) h (every_world_is_reached lines)) e u
+
+pub origins_stay : OriginsStay
+origins_stay lines page w k m h e = reached_first lines page w k m (subst (WorldReached lines) h (every_world_is_reached lines)) e
 
 pub every_site_holds : EverySiteHolds
 every_site_holds lines page w k m h e = site_holds lines page w k m (subst (WorldReached lines) h (every_world_is_reached lines)) e

@@ -1,6 +1,6 @@
 -- Items put back as they were shown: a line with `exact` reads them, and what it doesn't say of a
 -- leaf that no tag spells comes from the page as it was first read.
-use Rattle.std.specs.Prelude.{◌≡◌, ◌<◌, ◌≤◌, ◌-◌, ℕ, zero, suc, Bool, true, false, not, ◌||◌, nat_lt, if◌then◌else◌, List, [], ◌∷◌, ◌++◌, length, map, slice_range, codes, Option, Some, None, Ok}
+use Rattle.std.specs.Prelude.{◌≡◌, ◌<◌, ◌≤◌, ◌-◌, ℕ, zero, suc, Bool, true, false, not, ◌&&◌, ◌||◌, nat_lt, if◌then◌else◌, List, [], ◌∷◌, ◌++◌, length, map, slice_get, slice_range, codes, Option, Some, None, Ok}
 use Rattle.std.specs.List.{AllByRecursion}
 use Rattle.serde_json.specs.Data.{Data, no_members, object, put}
 use Rattle.ve_base.specs.Limits.{max_items}
@@ -10,6 +10,11 @@ use Rattle.ve_kinds.specs.Table.{is_element, kind_same}
 use Rattle.ve_base.specs.declared.head.Head.{Head}
 use Rattle.model_items.specs.declared.plain_item.PlainItem.{PlainItem}
 use Rattle.model_items.specs.declared.plain_item.PlainItem.TheVariants.{Char, Opening, Closing}
+use Rattle.model_items.specs.Same.{head_same}
+use Rattle.model_page.specs.PageItems.{Opened}
+use Rattle.model_site.specs.Session.{Member, Session}
+use Rattle.model_site_law.specs.ItemLaws.{AllPass}
+use Rattle.model_world.specs.World.{Closed, Open, world_after}
 use Rattle.model_change.specs.Transaction.{Transaction, edited}
 use Rattle.model_world.specs.declared.edit_command.OpWords.{OpWords}
 use Rattle.model_world.specs.declared.edit_command.EditCommand.TheVariants.{Apply}
@@ -53,15 +58,22 @@ without_head (Closing kind pre) = Closing kind pre
 abbrev pub ExactIsRead : Type 0
 ExactIsRead = (items : List PlainItem) → AllByRecursion CanPutBack items → all_items_in true (items_shown items) ≡ Some (map without_head items)
 
--- For an origin the page has an opening of the same kind; of such a leaf it has the same head.
-pub record IsFirst (opened : List PlainItem) (kind : Kind) (head : Head) (origin : ℕ) : Type 0 where
-  pub first : Head
-  pub read : read_for origin opened ≡ Some (kind, first)
-  pub same : is_element kind ≡ false → first ≡ head
+-- The page has an opening of this kind for the origin; of a leaf that no tag spells it has this head.
+abbrev pub is_as_read : Kind → Head → Option (Kind × Head) → Bool
+is_as_read kind head None = false
+is_as_read kind head (Some first) = kind_same kind first.0 && (is_element kind || head_same head first.1)
 
-abbrev pub HasFirst : (opened : List PlainItem) → PlainItem → Type 0
-HasFirst opened (Opening kind head marks pre (Some origin) generated) = IsFirst opened kind head origin
-HasFirst opened _ = Unit {0}
+-- so it is of an opening with an origin
+abbrev pub has_first : (opened : List PlainItem) → PlainItem → Bool
+has_first opened (Opening kind head marks pre (Some origin) generated) = is_as_read kind head (read_for origin opened)
+has_first opened (Opening kind head marks pre None generated) = true
+has_first opened (Char c marks) = true
+has_first opened (Closing kind pre) = true
+
+-- Whatever the lines, it is so of each item of each site's list.
+abbrev pub OriginsStay : Type 0
+OriginsStay = (lines : List (List ℕ)) (page : Opened) (w : Session) (k : ℕ) (m : Member) → world_after Closed lines ≡ Open page w → slice_get w.members k ≡ Some m →
+    AllPass (has_first page.items) m.site.replica.items
 
 -- ---- the change
 
@@ -85,8 +97,14 @@ pub record IsPutBack (opened items : List PlainItem) (from to : ℕ) : Type 0 wh
   pub gives : change_of items (completed opened (Apply ops)) ≡ Ok t
   pub list : edited t items ≡ items
 
--- So it is of every range that is not empty, has no bracket of the internal list, and has the page's
--- openings for its origins.
+-- So it is of every range that is not empty, where each item can be put back, and each opening with
+-- an origin is the page's.
 abbrev pub PutBackStays : Type 0
 PutBackStays = (opened items : List PlainItem) (from to : ℕ) → length items ≤ max_items → from < to → to ≤ length items →
-    AllByRecursion CanPutBack (slice_range items from to) → AllByRecursion (HasFirst opened) (slice_range items from to) → IsPutBack opened items from to
+    AllByRecursion CanPutBack (slice_range items from to) → AllPass (has_first opened) (slice_range items from to) → IsPutBack opened items from to
+
+-- So it is in every world of every site's list, where each item of the range can be put back.
+abbrev pub WorldsPutBack : Type 0
+WorldsPutBack = (lines : List (List ℕ)) (page : Opened) (w : Session) (k : ℕ) (m : Member) (from to : ℕ) → world_after Closed lines ≡ Open page w → slice_get w.members k ≡ Some m →
+    let items = m.site.replica.items in
+    length items ≤ max_items → from < to → to ≤ length items → AllByRecursion CanPutBack (slice_range items from to) → IsPutBack page.items items from to

@@ -24,6 +24,7 @@ use Rattle.model_site_law.specs.ViewLaws.{told_at, told_last}
 use Rattle.model_world.specs.declared.command.Command.TheVariants.{OpenPage}
 use Rattle.model_world.specs.Commands.{command}
 use Rattle.model_world.specs.Opening.{open_page}
+use Rattle.model_world_law.specs.PutBack.{has_first}
 use Rattle.model_world_law.specs.Standing.{may_stand}
 use Rattle.model_world.specs.World.{World, Closed, Open, world_after}
 
@@ -39,6 +40,8 @@ pub record Becomes (teller : Option ℕ) (w next : Session) : Type 0 where
   pub within : AllSelectWithin w events
   -- where the items of the page and of every site may stand, so may all that is inserted
   pub inserts : AllPass may_stand w.base.items → Every (λ m. AllPass may_stand m.site.replica.items) w.members → AllByRecursion (Inserts may_stand) events
+  -- where each opening with an origin is one of the page's, so is each that is inserted
+  pub origins : Every (λ m. AllPass (has_first w.base.items) m.site.replica.items) w.members → AllByRecursion (Inserts (has_first w.base.items)) events
   pub told : (k : ℕ) (before : List PlainItem) → told_last k w events before ≡ told_if teller k w before
   pub same : next ≡ run w events
 
@@ -61,6 +64,7 @@ pub record IsReached (lines : List (List ℕ)) (page : Opened) (w : Session) : T
   pub may : AllMayHappen (started (opened_with page.items) sites) events
   pub within : AllSelectWithin (started (opened_with page.items) sites) events
   pub inserts : IsUtf8 page.page → AllByRecursion (Inserts may_stand) events
+  pub origins : AllByRecursion (Inserts (has_first page.items)) events
   pub same : w ≡ run (started (opened_with page.items) sites) events
 
 abbrev pub WorldReached : List (List ℕ) → World → Type 0

@@ -7,7 +7,7 @@ ghost use Rattle.model_world_law.specs.Pasted.{FragmentsAreChildren, PastingStay
 ghost use Rattle.model_world_law.specs.ShownLaws.{ShownIsRead};
 ghost use Rattle.model_world_law.specs.Redone.{LinesRedo};
 ghost use Rattle.model_world_law.specs.ViewLines.{LinesShow};
-ghost use Rattle.model_world_law.specs.PutBack.{ExactIsRead, PutBackStays};
+ghost use Rattle.model_world_law.specs.PutBack.{ExactIsRead, OriginsStay, PutBackStays, WorldsPutBack};
 ghost use Rattle.model_world_law.specs.AheadLaws.{LinesOfTwoSitesSwap};
 ghost use Rattle.model_world_law.specs.Reached.{EveryItemStands, EveryWorldIsReached, EverySiteHolds, QuietSitesMeet, SitesMeet, UneditedIsWrittenBack};
 
@@ -34,11 +34,14 @@ pub fn shown_is_read()
     ensures { ShownIsRead }
 {}
 
-/// Items that a reply shows are read back by a line with `exact`, but for the heads of leaves that no
-/// tag spells. A range that is removed, and put back as it is shown, leaves the list as it is.
+/// Items that a reply shows are read back by a line with `exact`, but for the heads of leaves that
+/// no tag spells. A range that is removed, and put back as it is shown, leaves the list as it is. So
+/// it does in every world: each opening with an origin stays one that the page was read with.
 pub fn put_back_stays()
     ensures read { ExactIsRead }
     ensures stays { PutBackStays }
+    ensures origins { OriginsStay }
+    ensures worlds { WorldsPutBack }
 {}
 
 /// Want of memory is never the cause of a refusal of a change, a row, a column or a moved list
@@ -60,8 +63,10 @@ pub fn every_world_is_reached()
 
 /// So each site of every world has a sound list, the replay of what it has seen and made. It has
 /// seen no more than is committed. Its store has what the list cites, and each value once. Its
-/// selection stands in the list. The server's answers count what it still holds as sent. With
-/// everything undone, and nothing taken, it has the page's items and the first store.
+/// selection stands in the list. The server's answers count what it still holds as sent. An entry
+/// that it takes back, under all later ones or under those that still count, leaves the list
+/// without it. With everything undone, and nothing taken, it has the page's items and the first
+/// store.
 pub fn every_site_holds()
     ensures { EverySiteHolds }
 {}
@@ -113,7 +118,8 @@ pub fn lines_show()
 {}
 
 /// Two lines that name two different sites may come in either order, unless the server has its turn
-/// in one of them and the other is a turn, too. Each has the same reply, and one world comes of them.
+/// in one of them and the other is a turn, too. Each has the same reply, and one world comes of
+/// them.
 pub fn lines_of_two_sites_swap()
     ensures { LinesOfTwoSitesSwap }
 {}

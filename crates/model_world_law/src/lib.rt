@@ -25,6 +25,6 @@ mod laws;
 pub use laws::{
     every_item_stands, every_site_holds, every_world_is_reached, insertions_stand, layers_fit,
     limits_hold, lines_of_two_sites_swap, lines_redo, lines_show, pasting_stays_lawful,
-    quiet_sites_meet, references_are_written, shown_is_read, sites_meet, store_full_is_full,
-    unedited_is_written_back,
+    put_back_stays, quiet_sites_meet, references_are_written, shown_is_read, sites_meet,
+    store_full_is_full, unedited_is_written_back,
 };

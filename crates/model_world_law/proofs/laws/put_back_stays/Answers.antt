@@ -1,5 +1,6 @@
 use Rattle.model_world_law.proofs.PutBackLemmas.{exact_is_read}
 use Rattle.model_world_law.proofs.PutBackChange as law
+use Rattle.model_world_law.proofs.ReachLemmas.{origins_stay}
 use Rattle.model_world_law.proofs.laws.put_back_stays.Goals as goal
 
 pub returns-clause-read : goal.returns-clause-read
@@ -7,3 +8,9 @@ returns-clause-read c = exact_is_read
 
 pub returns-clause-stays : goal.returns-clause-stays
 returns-clause-stays c = law.put_back_stays
+
+pub returns-clause-origins : goal.returns-clause-origins
+returns-clause-origins c = origins_stay
+
+pub returns-clause-worlds : goal.returns-clause-worlds
+returns-clause-worlds c = law.worlds_put_back
