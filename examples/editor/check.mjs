@@ -37,7 +37,7 @@ async function check(name, act) {
     await act();
   } catch (error) {
     failed++;
-    console.error(`${name}: ${error.stack}`);
+    console.error(`${name}: ${error.message}\n${error.stack}`);
   }
   if (process.env.VERBOSE) console.log(`${(performance.now() - begin).toFixed().padStart(6)} ms  ${name}`);
 }
