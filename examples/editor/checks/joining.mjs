@@ -6,7 +6,7 @@ import { clickAfter, html, keys, meet, state } from "../person.mjs";
 export const page = "<h1>On cats</h1><p>They sit.</p>";
 
 const isIn = (person, wanted) => until(`the state is ${wanted}`, async () => (await state(person)).startsWith(wanted));
-export const ALONE = "No server", AWAY = "The server isn't there", SHARED = "";
+const ALONE = "No server", AWAY = "The server isn't there", SHARED = "";
 
 /** A window that never met a server keeps what is typed, and joins the first server that has the page. */
 export async function alone(browser, files, serve) {

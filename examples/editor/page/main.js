@@ -96,6 +96,8 @@ listenToClipboard(host, editor);
 listenToGrip(find("main"), host, editor);
 log.open();
 
+addEventListener("beforeprint", () => editor.view.drawAll());
+
 // The files that this page is made of are kept by the browser, so that it opens where no server is.
 navigator.serviceWorker?.register("offline.js").then(async () => {
   const { active } = await navigator.serviceWorker.ready;
