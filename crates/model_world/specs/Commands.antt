@@ -1,5 +1,5 @@
 -- Commands of a script's lines.
-use Rattle.std.specs.Prelude.{ℕ, ◌&&◌, nat_le, false, if◌then◌else◌, List, [], ◌∷◌, length, map, codes, Bool, Option, Some, None, option_map, Result, Ok, Err}
+use Rattle.std.specs.Prelude.{ℕ, ◌&&◌, nat_le, false, if◌then◌else◌, List, [], ◌∷◌, length, map, codes, Bool, Option, Some, None, Result, Ok, Err}
 use Rattle.ve_base.specs.Limits.{max_batch, max_sites}
 use Rattle.serde_json.specs.Data.{Data, object, Members}
 use Rattle.serde_json.specs.Find.{as_bool}
@@ -16,7 +16,7 @@ use Rattle.model_world.specs.declared.field.Field.{Field}
 use Rattle.model_world.specs.declared.field.Field.TheVariants as field
 use Rattle.model_world.specs.declared.refusal.Refusal.{Refusal}
 use Rattle.model_world.specs.declared.refusal.Refusal.TheVariants.{BadJson, BadCommand}
-use Rattle.model_world.specs.Values.{line_json, such_that, number_in, number_between, source_in, list_in, word_in}
+use Rattle.model_world.specs.Values.{line_json, such_that, number_in, some_number_in, number_between, source_in, list_in, word_in}
 use Rattle.model_world.specs.Members.{Reader, ◌>>=◌, required_member, optional_member, map_reader}
 use Rattle.model_world.specs.Changes.{some_text_in, changes, reader_in, change_in}
 
@@ -37,9 +37,6 @@ table_read line asked members = do
   at ← required_member field.At number_in members
   number ← required_member line number_in members
   Ok (asked at number)
-
-abbrev pub some_number_in : Data → Option (Option ℕ)
-some_number_in json = option_map (λ n. Some n) (number_in json)
 
 abbrev pub show_read : Reader Request
 show_read members = do

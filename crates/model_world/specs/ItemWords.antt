@@ -14,7 +14,7 @@ use Rattle.model_items.specs.declared.plain_item.PlainItem.TheVariants.{Opening,
 use Rattle.model_page.specs.Elements.{is_white}
 use Rattle.model_page_write.specs.Written.{is_empty}
 use Rattle.model_edit.specs.Insert.{text_pieces}
-use Rattle.model_world.specs.Values.{◌>>=◌, such_that, number_in, text_in, list_in, pair_in, member_or}
+use Rattle.model_world.specs.Values.{◌>>=◌, such_that, some_number_in, text_in, list_in, pair_in, member_or}
 use Rattle.model_world.specs.Attributes.{allowed_attrs_in, marks_in, kind_in}
 
 -- ---- brackets
@@ -45,9 +45,6 @@ opening_with kind attrs marks pre provenance =
     )
     else None
 
-abbrev pub origin_in : Data → Option (Option ℕ)
-origin_in json = option_map (λ n. Some n) (number_in json)
-
 -- a paragraph alone is generated, and a leaf that no tag spells has an origin
 abbrev pub may_come : Kind → Provenance → Bool
 may_come kind provenance = (not provenance.generated || kind_same kind P) && (is_element kind || is_some provenance.origin)
@@ -56,7 +53,7 @@ abbrev pub provenance_in : (exact : Bool) → Members → Kind → Option Proven
 provenance_in false _ kind = Some (record { origin = None; generated = false })
 provenance_in true members kind = do
   generated ← member_or (codes "gen") false as_bool members
-  origin ← member_or (codes "origin") None origin_in members
+  origin ← member_or (codes "origin") None some_number_in members
   such_that (may_come kind) (Some (record { origin = origin; generated = generated }))
 
 -- the attributes of an element; those of a leaf that no tag spells are not read

@@ -29,6 +29,10 @@ digits_in json = option_and_then as_u64 (as_number json)
 abbrev pub number_in : Data → Option ℕ
 number_in json = such_that (λ n. nat_lt n 4294967296) (digits_in json)
 
+-- the same of a number that may be absent
+abbrev pub some_number_in : Data → Option (Option ℕ)
+some_number_in json = option_map (λ n. Some n) (number_in json)
+
 abbrev pub number_between : ℕ → ℕ → Data → Option ℕ
 number_between least most json = such_that (λ n. nat_le least n && nat_le n most) (digits_in json)
 

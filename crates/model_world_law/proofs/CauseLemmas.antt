@@ -136,6 +136,7 @@ change_is items (change.Wrap from to plan) h = built_is (wrap items from to plan
 change_is items (change.Convert at kind) h = built_is (convert items at kind) h
 change_is items (change.Attr at name to) h = built_is (attribute items at name to) h
 change_is items (change.Apply ops) h = applied_is items ops h
+change_is items (change.NoOrigin origin) h = cc
 
 -- ---- what is removed is the list's own
 
@@ -259,6 +260,7 @@ change_match items (change.Wrap from to plan) t w s h = fine_match items t (wrap
 change_match items (change.Convert at kind) t w s h = fine_match items t (convert_fine items at kind t s.lawful (given build_refusal _ t h))
 change_match items (change.Attr at name to) t w s h = fine_match items t (attribute_fine items at name to t (given build_refusal _ t h))
 change_match items (change.Apply ops) t w s h = applied_match items ops t w.0 h
+change_match items (change.NoOrigin origin) t w s h = cc
 
 -- ---- what is left is the store
 

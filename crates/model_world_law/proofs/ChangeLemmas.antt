@@ -27,13 +27,15 @@ use Rattle.model_world.specs.declared.edit_command.TextMarks.{TextMarks}
 use Rattle.model_world.specs.declared.edit_command.TextMarks.TheVariants.{Left, Plain}
 use Rattle.model_world.specs.declared.edit_command.OpWords.{OpWords}
 use Rattle.model_world.specs.declared.edit_command.OpWords.TheVariants as op
+use Rattle.model_world.specs.declared.edit_command.EditCommand.{EditCommand}
 use Rattle.model_world.specs.declared.edit_command.EditCommand.TheVariants as change
 use Rattle.model_world.specs.declared.refusal.Refusal.{Refusal}
 use Rattle.model_world.specs.declared.refusal.Refusal.TheVariants.{BadOffset, BadLength, TooManyMarks}
 use Rattle.model_world.specs.Operations as operations
 use Rattle.model_world.specs.Refusals.{refused_as, html_refusal, build_refusal, open_refusal}
-use Rattle.model_world.specs.Edits.{built_transaction, forest_inserted, text_inserted, fragment_inserted, needs, set_first, ops_on, transaction_of_ops, text_typed}
+use Rattle.model_world.specs.Edits.{built_transaction, change_of, forest_inserted, text_inserted, fragment_inserted, needs, set_first, ops_on, transaction_of_ops, text_typed}
 use Rattle.model_world_law.specs.Fit.{Fit, OpsApart, ChangesFit, PagesAreSound}
+use Rattle.model_world_law.proofs.CompletedLemmas.{IsFormed, formed}
 use Rattle.model_world_law.proofs.BuilderLemmas.{insertion_fits, split_fits, removal_fits, marking_fits, unmarking_fits, wrap_fits, convert_fits, attribute_fits}
 use Rattle.model_world_law.proofs.MadeLemmas.{apart-chars, ForestApart, forest_apart, read_apart, fragment_apart, page_apart}
 
@@ -156,17 +158,21 @@ typed_fits : (marks : TextMarks) (items : List PlainItem) (at : ℕ) (text : Lis
 typed_fits Left items at text t s h = insertion_fits items at (text_pieces (marks_before items at) text) t s (apart-chars (marks_before items at) text) h
 typed_fits Plain items at text t s h = insertion_fits items at (text_pieces [] text) t s (apart-chars [] text) h
 
+pub formed_fits : (items : List PlainItem) (c : EditCommand) (t : Transaction) → IsFormed c → Sound items → change_of items c ≡ Ok t → Fit t
+formed_fits items (change.Text at text marks) t w s h = typed_fits marks items at text t s (given build_refusal _ t h)
+formed_fits items (change.Insert at html) t w s h = fragment_fits items at html t s h
+formed_fits items (change.Remove from to) t w s h = removal_fits items from to t s (given build_refusal _ t h)
+formed_fits items (change.Split at depth) t w s h = split_fits items at depth t s (given build_refusal _ t h)
+formed_fits items (change.Mark from to mark) t w s h = marking_fits items from to mark t s (given build_refusal _ t h)
+formed_fits items (change.Unmark from to mark) t w s h = unmarking_fits items from to mark t s (given build_refusal _ t h)
+formed_fits items (change.Wrap from to plan) t w s h = wrap_fits items from to plan t w s (given build_refusal _ t h)
+formed_fits items (change.Convert at kind) t w s h = convert_fits items at kind t s (given build_refusal _ t h)
+formed_fits items (change.Attr at name to) t w s h = attribute_fits items at name to t (given build_refusal _ t h)
+formed_fits items (change.Apply ops) t w s h = applied_fits items ops t w.0 w.1 h
+formed_fits items (change.NoOrigin origin) t w s h = cc
+
 pub changes_fit : ChangesFit
-changes_fit items (change.Text at text marks) t w s h = typed_fits marks items at text t s (given build_refusal _ t h)
-changes_fit items (change.Insert at html) t w s h = fragment_fits items at html t s h
-changes_fit items (change.Remove from to) t w s h = removal_fits items from to t s (given build_refusal _ t h)
-changes_fit items (change.Split at depth) t w s h = split_fits items at depth t s (given build_refusal _ t h)
-changes_fit items (change.Mark from to mark) t w s h = marking_fits items from to mark t s (given build_refusal _ t h)
-changes_fit items (change.Unmark from to mark) t w s h = unmarking_fits items from to mark t s (given build_refusal _ t h)
-changes_fit items (change.Wrap from to plan) t w s h = wrap_fits items from to plan t w.0 s (given build_refusal _ t h)
-changes_fit items (change.Convert at kind) t w s h = convert_fits items at kind t s (given build_refusal _ t h)
-changes_fit items (change.Attr at name to) t w s h = attribute_fits items at name to t (given build_refusal _ t h)
-changes_fit items (change.Apply ops) t w s h = applied_fits items ops t w.0 w.1 h
+changes_fit items c t w s h = formed_fits items c t (formed c w) s h
 
 -- ---- pages
 

@@ -22,8 +22,9 @@ use Rattle.model_page_law.proofs.EditsRefer.{fragments_refer}
 use Rattle.model_page_law.proofs.OpenPageLemmas.{read_is_within}
 use Rattle.model_page_law.proofs.PageRefers.{opened_refers}
 use Rattle.model_site_law.specs.Sound.{Sound}
-use Rattle.model_world.specs.Edits.{transaction_of_ops, built_transaction, forest_inserted, fragment_inserted, needs, ops_on, text_inserted, text_typed}
+use Rattle.model_world.specs.Edits.{transaction_of_ops, built_transaction, change_of, forest_inserted, fragment_inserted, needs, ops_on, text_inserted, text_typed}
 use Rattle.model_world.specs.Refusals.{build_refusal, html_refusal, open_refusal}
+use Rattle.model_world.specs.declared.edit_command.EditCommand.{EditCommand}
 use Rattle.model_world.specs.declared.edit_command.EditCommand.TheVariants as change
 use Rattle.model_world.specs.declared.edit_command.OpWords.{OpWords}
 use Rattle.model_world.specs.declared.edit_command.OpWords.TheVariants as op
@@ -34,6 +35,7 @@ use Rattle.model_world.specs.declared.refusal.Refusal.TheVariants.{BadLength, Ba
 use Rattle.model_world_law.specs.Fit.{ChangesStand, InsertsStanding, MovesStand, PagesStand}
 use Rattle.model_world_law.specs.Standing.{OpsStand, has_few_marks}
 use Rattle.model_world_law.proofs.ChangeLemmas.{given}
+use Rattle.model_world_law.proofs.CompletedLemmas.{InsertsWell, inserts_well}
 use Rattle.model_world_law.proofs.FewMarks.{AllFew, fragment_few, page_few}
 use Rattle.model_world_law.proofs.StandEditLemmas as edit
 use Rattle.model_world_law.proofs.StandLemmas.{AllStand, stand-append}
@@ -98,17 +100,21 @@ typed_stand : (marks : TextMarks) (items : List PlainItem) (at : ℕ) (text : Li
 typed_stand Left items at text t s p h = edit.typing_stands items at text t s.lawful p h
 typed_stand Plain items at text t s p h = edit.plain_typing_stands items at text t s.lawful h
 
+pub standing_stands : (items : List PlainItem) (c : EditCommand) (t : Transaction) → InsertsWell c → Sound items → AllStand items → change_of items c ≡ Ok t → InsertsStanding t
+standing_stands items (change.Text at text marks) t w s p h = typed_stand marks items at text t s p (given build_refusal _ t h)
+standing_stands items (change.Insert at html) t w s p h = fragment_stands items at html t s h
+standing_stands items (change.Remove from to) t w s p h = edit.removal_stands items from to t (given build_refusal _ t h)
+standing_stands items (change.Split at depth) t w s p h = edit.split_stands items at depth t s.lawful (given build_refusal _ t h)
+standing_stands items (change.Mark from to mark) t w s p h = edit.marking_stands items from to mark t p (given build_refusal _ t h)
+standing_stands items (change.Unmark from to mark) t w s p h = edit.unmarking_stands items from to mark t p (given build_refusal _ t h)
+standing_stands items (change.Wrap from to plan) t w s p h = edit.wrap_stands items from to plan t w (given build_refusal _ t h)
+standing_stands items (change.Convert at kind) t w s p h = edit.convert_stands items at kind t p (given build_refusal _ t h)
+standing_stands items (change.Attr at name to) t w s p h = edit.attribute_stands items at name to t (given build_refusal _ t h)
+standing_stands items (change.Apply ops) t w s p h = applied_stands items ops t w h
+standing_stands items (change.NoOrigin origin) t w s p h = cc
+
 pub changes_stand : ChangesStand
-changes_stand items (change.Text at text marks) t w s p h = typed_stand marks items at text t s p (given build_refusal _ t h)
-changes_stand items (change.Insert at html) t w s p h = fragment_stands items at html t s h
-changes_stand items (change.Remove from to) t w s p h = edit.removal_stands items from to t (given build_refusal _ t h)
-changes_stand items (change.Split at depth) t w s p h = edit.split_stands items at depth t s.lawful (given build_refusal _ t h)
-changes_stand items (change.Mark from to mark) t w s p h = edit.marking_stands items from to mark t p (given build_refusal _ t h)
-changes_stand items (change.Unmark from to mark) t w s p h = edit.unmarking_stands items from to mark t p (given build_refusal _ t h)
-changes_stand items (change.Wrap from to plan) t w s p h = edit.wrap_stands items from to plan t w.1 (given build_refusal _ t h)
-changes_stand items (change.Convert at kind) t w s p h = edit.convert_stands items at kind t p (given build_refusal _ t h)
-changes_stand items (change.Attr at name to) t w s p h = edit.attribute_stands items at name to t (given build_refusal _ t h)
-changes_stand items (change.Apply ops) t w s p h = applied_stands items ops t w.2 h
+changes_stand items c t w s p h = standing_stands items c t (inserts_well c w) s p h
 
 pub moves_stand : MovesStand
 moves_stand = record {

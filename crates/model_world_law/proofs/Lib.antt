@@ -1,6 +1,7 @@
 pub mod BuilderLemmas
 pub mod NameLemmas
 pub mod MadeLemmas
+pub mod CompletedLemmas
 pub mod ChangeLemmas
 pub mod CauseLemmas
 pub mod ReadLemmas
@@ -23,3 +24,9 @@ mod StandingExamples
 pub mod CarriedLemmas
 pub mod ViewLemmas
 pub mod OverMarks
+pub mod AlikeLemmas
+pub mod AheadLemmas
+mod AheadExamples
+pub mod PutBackLemmas
+pub mod PutBackChange
+mod PutBackExamples

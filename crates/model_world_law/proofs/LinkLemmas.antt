@@ -1,5 +1,6 @@
 -- Each accepted request is some events of the session.
-use Rattle.std.proofs.Common.{◌≡◌, ◌<◌, ℕ, zero, suc, nat_lt, Bool, true, false, List, [], ◌∷◌, length, slice_get, slice_range, ◌||◌, Option, Some, None, Result, Ok, Err, if◌then◌else◌, unwrap_or, refl, sym, ap, ◌∙◌, subst}
+use Rattle.std.proofs.Common.{◌≡◌, ◌<◌, ℕ, zero, suc, nat_lt, Bool, true, false, List, [], ◌∷◌, length, map, slice_get, slice_range, ◌||◌, Option, Some, None, Result, Ok, Err, if◌then◌else◌, unwrap_or, refl, sym, ap, ◌∙◌, subst}
+use Rattle.std.specs.List.{AllByRecursion}
 use Rattle.std.proofs.lemmas.Bool.{or_parts, ltb-true, ltb-false}
 use Rattle.model_items.specs.declared.plain_item.PlainItem.{PlainItem}
 use Rattle.model_items.specs.Law.{Lawful}
@@ -23,7 +24,7 @@ use Rattle.model_site.specs.declared.served.Served.{Served}
 use Rattle.model_site.specs.declared.taken.Taken.{Taken}
 use Rattle.model_site.specs.Replica.{Replica, performed, all_performed}
 use Rattle.model_site.specs.Refused.{edit_cause}
-use Rattle.model_change.specs.Join.{RangeConflict}
+use Rattle.model_site.specs.Live.{RevokeCause}
 use Rattle.model_site.specs.Site.{Site, Submission, with_entry, with_selection, with_told, undo, redo, send, revoke_entry}
 use Rattle.model_site.specs.Session.{Session, Member, put_member, with_member, serve_next, take_next}
 use Rattle.model_site.specs.Events.{Event, Perform, Select, Undo, Redo, Revoke, Send, Serve, Take, Tell, at_member, with_site_of, with_sent, after_turn, happens}
@@ -42,6 +43,7 @@ use Rattle.model_world.specs.declared.refusal.Refusal.{Refusal}
 use Rattle.model_world.specs.declared.refusal.Refusal.TheVariants.{BadRange, BadOffset, BadEntry, NotContent}
 use Rattle.model_world.specs.declared.reply.Reply.TheVariants as reply
 use Rattle.model_world.specs.Refusals.{refused_as, build_refusal, undo_refusal, redo_refusal, send_refusal, revoke_refusal, table_refusal, list_refusal}
+use Rattle.model_world.specs.Completed.{completed}
 use Rattle.model_world.specs.Edits.{BatchRefusal, checked_transaction, unless_faulty, change_of, change_on, batch_from, batch_on}
 use Rattle.model_world.specs.Answers.{Outcome, Asked, request_outcome, with_site, site_of, replica_of, site_items, unchanged_outcome, refusal_outcome, changed_or_no, performed_or_no, batch_or_no, selection_outcome, is_no_end, select_between, next_place, moved_or_no, lower, higher, is_collapsed, to_erase, erased_or_no, typing, after_text, typed_or_no, items_shown_or_no, node_told, node_or_no, content_near, offset_told, near_or_no, grid_or_no, table_changed, list_changed, sent_or_no, served_or_no, taken_or_no, revoked_or_no, edge_or, told_outcome}
 use Rattle.model_change.proofs.Fits.{parts_of_Applies}
@@ -51,13 +53,15 @@ use Rattle.model_site_law.proofs.ItemLemmas.{edited_all}
 use Rattle.model_site_law.proofs.SessionLemmas.{every_get}
 use Rattle.model_world_law.specs.Standing.{may_stand}
 use Rattle.model_world_law.proofs.StandLemmas.{setting_keeps}
-use Rattle.model_world_law.specs.Fit.{Fit, InsertsStanding, IsWritten, AllWritten, RequestWritten, LayersFit}
+use Rattle.model_world_law.specs.Fit.{Fit, InsertsStanding, IsRead, RequestRead, LayersFit}
 use Rattle.model_world.specs.Laws.{MadeInTurn}
 use Rattle.model_world.proofs.BatchLemmas.{batch_is_whole}
 use Rattle.model_site_law.specs.ViewLaws.{told_at}
 use Rattle.model_world_law.specs.Reached.{Becomes, told_if}
 use Rattle.model_world_law.specs.ViewLines.{teller}
-use Rattle.model_world_law.proofs.ChangeLemmas.{given}
+use Rattle.model_world_law.proofs.ChangeLemmas.{formed_fits, given}
+use Rattle.model_world_law.proofs.ChangeStand.{standing_stands}
+use Rattle.model_world_law.proofs.CompletedLemmas.{AllFormed, AllInsertWell, IsFormed, InsertsWell, all_completed_formed, all_completed_insert_well, completed_inserts_well, completed_is_formed}
 use Rattle.model_world_law.proofs.TypedLemmas.{content_no_leaf, typed_stands}
 
 -- ---- what may be performed
@@ -86,9 +90,9 @@ may_run r result t fit h =
 sound_next : (t : Transaction) (items : List PlainItem) → Sound items → MayRun t items → Sound (edited t items)
 sound_next t items s m = record { lawful = m.lawful; apart = names_stay_apart t items m.applies m.apart s.apart }
 
-batch_may : LayersFit → (i : ℕ) (cs : List EditCommand) (r : Replica) (ts : List Transaction) → AllWritten cs → Sound r.items → batch_from i cs r ≡ Ok ts → AllMayRun ts r.items
-batch_may fit i [] r ts written sound h = let e : ◌≡◌ {A = List Transaction} [] ts = cc in subst (λ us. AllMayRun us r.items) e tt
-batch_may fit i (c ∷ cs) r ts written sound h = by_first (λ j s us. batch_may fit j cs s us written.1) (change_on r c) refl h
+batch_may : (i : ℕ) (cs : List EditCommand) (r : Replica) (ts : List Transaction) → AllFormed cs → Sound r.items → batch_from i cs r ≡ Ok ts → AllMayRun ts r.items
+batch_may i [] r ts formed sound h = let e : ◌≡◌ {A = List Transaction} [] ts = cc in subst (λ us. AllMayRun us r.items) e tt
+batch_may i (c ∷ cs) r ts formed sound h = by_first (λ j s us. batch_may j cs s us formed.1) (change_on r c) refl h
   where
     by_first : ((j : ℕ) (s : Replica) (us : List Transaction) → Sound s.items → batch_from j cs s ≡ Ok us → AllMayRun us s.items) →
         (first : Result Transaction Refusal) → change_on r c ≡ first →
@@ -103,14 +107,14 @@ batch_may fit i (c ∷ cs) r ts written sound h = by_first (λ j s us. batch_may
             (elim rest as (λ _. Result (List Transaction) BatchRefusal) [ Err f ↦ Err f | Ok us ↦ Ok (t ∷ us) ]) ≡ Ok ts → AllMayRun ts r.items
         by_rest (Err f) d h = cc
         by_rest (Ok us) d h =
-            let may = may_run r (change_of r.items c) t (λ u k. fit.changes r.items c u written.0 sound k) e in
+            let may = may_run r (change_of r.items c) t (λ u k. formed_fits r.items c u formed.0 sound k) e in
             let same : t ∷ us ≡ ts = cc in
             subst (λ vs. AllMayRun vs r.items) same (may, rest_may (suc i) (performed t r) us (sound_next t r.items sound may) d)
 
 -- each change of a batch inserts such items, since those before it leave such items
-batch_stand : LayersFit → (i : ℕ) (cs : List EditCommand) (r : Replica) (ts : List Transaction) → AllWritten cs → Sound r.items → AllPass may_stand r.items → batch_from i cs r ≡ Ok ts → AllInsert may_stand ts
-batch_stand fit i [] r ts written sound p h = let e : ◌≡◌ {A = List Transaction} [] ts = cc in subst (AllInsert may_stand) e tt
-batch_stand fit i (c ∷ cs) r ts written sound p h = by_first (λ j s us. batch_stand fit j cs s us written.1) (change_on r c) refl h
+batch_stand : (i : ℕ) (cs : List EditCommand) (r : Replica) (ts : List Transaction) → AllFormed cs → AllInsertWell cs → Sound r.items → AllPass may_stand r.items → batch_from i cs r ≡ Ok ts → AllInsert may_stand ts
+batch_stand i [] r ts formed well sound p h = let e : ◌≡◌ {A = List Transaction} [] ts = cc in subst (AllInsert may_stand) e tt
+batch_stand i (c ∷ cs) r ts formed well sound p h = by_first (λ j s us. batch_stand j cs s us formed.1 well.1) (change_on r c) refl h
   where
     by_first : ((j : ℕ) (s : Replica) (us : List Transaction) → Sound s.items → AllPass may_stand s.items → batch_from j cs s ≡ Ok us → AllInsert may_stand us) →
         (first : Result Transaction Refusal) → change_on r c ≡ first →
@@ -125,17 +129,24 @@ batch_stand fit i (c ∷ cs) r ts written sound p h = by_first (λ j s us. batch
             (elim rest as (λ _. Result (List Transaction) BatchRefusal) [ Err f ↦ Err f | Ok us ↦ Ok (t ∷ us) ]) ≡ Ok ts → AllInsert may_stand ts
         by_rest (Err f) d h = cc
         by_rest (Ok us) d h =
-            let may = may_run r (change_of r.items c) t (λ u k. fit.changes r.items c u written.0 sound k) e in
-            let inserts = fit.changes_stand r.items c t written.0 sound p (allowed_is r (change_of r.items c) t e).given in
+            let may = may_run r (change_of r.items c) t (λ u k. formed_fits r.items c u formed.0 sound k) e in
+            let inserts = standing_stands r.items c t well.0 sound p (allowed_is r (change_of r.items c) t e).given in
             let same : t ∷ us ≡ ts = cc in
             subst (AllInsert may_stand) same (inserts, rest_stand (suc i) (performed t r) us (sound_next t r.items sound may) (edited_all may_stand setting_keeps t r.items (parts_of_Applies t r.items may.applies).1 inserts p) d)
 
-typing_written : (s : Selection) (text : List ℕ) → AllWritten (typing s text)
-typing_written s text = by_test (is_collapsed s)
+typing_each : (P : EditCommand → Type 0) → ((at : ℕ) (text : List ℕ) → P (change.Text at text Left)) → ((from to : ℕ) → P (change.Remove from to)) →
+    (s : Selection) (text : List ℕ) → AllByRecursion P (typing s text)
+typing_each P put remove s text = by_test (is_collapsed s)
   where
-    by_test : (b : Bool) → AllWritten (if b then change.Text (lower s) text Left ∷ [] else change.Remove (lower s) (higher s) ∷ change.Text (lower s) text Left ∷ [])
-    by_test true = (tt, tt)
-    by_test false = (tt, (tt, tt))
+    by_test : (b : Bool) → AllByRecursion P (if b then change.Text (lower s) text Left ∷ [] else change.Remove (lower s) (higher s) ∷ change.Text (lower s) text Left ∷ [])
+    by_test true = (put (lower s) text, tt)
+    by_test false = (remove (lower s) (higher s), (put (lower s) text, tt))
+
+typing_formed : (s : Selection) (text : List ℕ) → AllFormed (typing s text)
+typing_formed = typing_each IsFormed (λ at text. tt) (λ from to. tt)
+
+typing_inserts_well : (s : Selection) (text : List ℕ) → AllInsertWell (typing s text)
+typing_inserts_well = typing_each InsertsWell (λ at text. tt) (λ from to. tt)
 
 -- ---- members put in their places
 
@@ -154,11 +165,14 @@ put_put (suc k) m n (x ∷ ms) = ap (λ r. x ∷ r) (put_put k m n ms)
 
 -- ---- requests
 
--- the site is there, and its list is sound
+-- the site is there, and its list is sound, as the page's is
 pub record Stands (a : Asked) : Type 0 where
   pub there : slice_get a.session.members a.k ≡ Some a.member
   pub sound : Sound (site_items a)
   pub selection : StandsIn (site_items a) (replica_of a).selection
+  -- the page, as it was first read
+  pub opened : Sound a.page.items
+  pub base : a.session.base.items ≡ a.page.items
 
 -- the site of this number tells, or none
 abbrev pub LeadsBy : (teller : Option ℕ) → Asked → Outcome → Type 0
@@ -169,19 +183,22 @@ abbrev pub Leads : Asked → Outcome → Type 0
 Leads = LeadsBy None
 
 stays : (a : Asked) → Becomes None a.session a.session
-stays a = record { events = []; may = tt; within = tt; inserts = λ every. tt; told = λ k before. refl; same = refl }
+stays a = record { events = []; may = tt; within = tt; inserts = λ base every. tt; told = λ k before. refl; same = refl }
 
--- the items of the site that is asked may stand, where those of every site may
+-- the items of the page and of the site that is asked may stand, where those of every site may
 abbrev Items : Asked → Type 0
-Items a = AllPass may_stand (site_items a)
+Items a = AllPass may_stand a.page.items × AllPass may_stand (site_items a)
 
-asked_items : (a : Asked) → Stands a → Every (λ m. AllPass may_stand m.site.replica.items) a.session.members → Items a
-asked_items a s every = every_get (λ m. AllPass may_stand m.site.replica.items) a.session.members a.k a.member every s.there
+asked_items : (a : Asked) → Stands a → AllPass may_stand a.session.base.items → Every (λ m. AllPass may_stand m.site.replica.items) a.session.members → Items a
+asked_items a s base every = (
+  subst (AllPass may_stand) s.base base,
+  every_get (λ m. AllPass may_stand m.site.replica.items) a.session.members a.k a.member every s.there,
+)
 
 one_event : {t : Option ℕ} (a : Asked) → Stands a → (e : Event) (next : Session) → ((k : ℕ) (before : List PlainItem) → told_at k a.session e before ≡ told_if t k a.session before) →
     MayHappen a.session e → SelectsWithin a.session e → (Items a → Inserts may_stand e) → next ≡ happens a.session e → Becomes t a.session next
 one_event a s e next told may within inserts same =
-    record { events = e ∷ []; may = (may, tt); within = (within, tt); inserts = λ every. (inserts (asked_items a s every), tt); told = told; same = same }
+    record { events = e ∷ []; may = (may, tt); within = (within, tt); inserts = λ base every. (inserts (asked_items a s base every), tt); told = told; same = same }
 
 same_member : (a : Asked) → Stands a → (m : Member) → slice_get a.session.members a.k ≡ Some m → a.member ≡ m
 same_member a s m e = let f : Some a.member ≡ Some m = sym s.there ∙ e in cc
@@ -234,7 +251,7 @@ typed_leads a s (Ok ts) may stands inserts =
       events = Perform a.k ts ∷ Select a.k sel ∷ [];
       may = ((λ m e. subst (λ n. AllMayRun ts n.site.replica.items) (same_member a s m e) (may ts refl)), (tt, tt));
       within = (tt, (subst (λ (v : Session). (m : Member) → slice_get v.members a.k ≡ Some m → StandsIn m.site.replica.items sel) (perform_same a s ts) of_middle, tt));
-      inserts = λ every. (inserts ts refl (asked_items a s every), (tt, tt));
+      inserts = λ base every. (inserts ts refl (asked_items a s base every), (tt, tt));
       told = λ k before. refl;
       same = ap (λ ms. record a.session { members = ms }) (sym (put_put a.k last middle a.session.members))
           ∙ ap (λ o. at_member w o (λ m. events.with_site a.k m (with_selection sel m.site) w)) (sym there)
@@ -306,22 +323,22 @@ redo_leads a s (Err f) e = tt
 redo_leads a s (Ok site) e = one_event a s (Redo a.k) _ (λ k before. refl) tt tt (λ p. tt)
     (ap (λ r. with_site_of a.k a.member r a.session) (sym e) ∙ of_member a s (λ m. with_site_of a.k m (redo m.site) a.session))
 
-revoke_leads : (a : Asked) → Stands a → (i : ℕ) → i < (site_of a).seen → (r : Result Site RangeConflict) → revoke_entry a.session.committed i (site_of a) ≡ r →
-    Leads a (changed_or_no a (refused_as revoke_refusal r))
-revoke_leads a s i seen (Err f) e = tt
-revoke_leads a s i seen (Ok site) e = one_event a s (Revoke a.k i) _ (λ k before. refl)
+revoke_leads : (a : Asked) → Stands a → (i : ℕ) (live : Bool) → i < (site_of a).seen → (r : Result Site RevokeCause) → revoke_entry a.session.committed a.session.hints live i (site_of a) ≡ r →
+    Leads a (changed_or_no a (refused_as (revoke_refusal i) r))
+revoke_leads a s i live seen (Err f) e = tt
+revoke_leads a s i live seen (Ok site) e = one_event a s (Revoke a.k i live) _ (λ k before. refl)
     (λ m there. subst (λ n. i < n.site.seen) (same_member a s m there) seen) tt (λ p. tt)
-    (ap (λ r. with_site_of a.k a.member r a.session) (sym e) ∙ of_member a s (λ m. with_site_of a.k m (revoke_entry a.session.committed i m.site) a.session))
+    (ap (λ r. with_site_of a.k a.member r a.session) (sym e) ∙ of_member a s (λ m. with_site_of a.k m (revoke_entry a.session.committed a.session.hints live i m.site) a.session))
 
-revoked_leads : (a : Asked) → Stands a → (i : ℕ) → Leads a (revoked_or_no a i)
-revoked_leads a s i = by_seen (nat_lt i (site_of a).seen) refl
+revoked_leads : (a : Asked) → Stands a → (i : ℕ) (live : Bool) → Leads a (revoked_or_no a i live)
+revoked_leads a s i live = by_seen (nat_lt i (site_of a).seen) refl
   where
     by_seen : (b : Bool) → nat_lt i (site_of a).seen ≡ b → Leads a (elim b as (λ _. Outcome) [
       | false ↦ refusal_outcome (BadEntry i (site_of a).seen)
-      | true ↦ changed_or_no a (refused_as revoke_refusal (revoke_entry a.session.committed i (site_of a)))
+      | true ↦ changed_or_no a (refused_as (revoke_refusal i) (revoke_entry a.session.committed a.session.hints live i (site_of a)))
     ])
     by_seen false e = tt
-    by_seen true e = revoke_leads a s i (ltb-true i (site_of a).seen e) (revoke_entry a.session.committed i (site_of a)) refl
+    by_seen true e = revoke_leads a s i live (ltb-true i (site_of a).seen e) (revoke_entry a.session.committed a.session.hints live i (site_of a)) refl
 
 send_leads : (a : Asked) → Stands a → (r : Result (Site × Submission) SendCause) → send (site_of a) ≡ r → Leads a (sent_or_no a (refused_as send_refusal r))
 send_leads a s (Err f) e = tt
@@ -346,13 +363,17 @@ list_leads : (a : Asked) → Stands a → (r : Result Transaction ListCause) →
 list_leads a s r fit inserts =
     allowed_leads a s (refused_as list_refusal r) (λ u e. fit u (given list_refusal r u e)) (λ u e p. inserts u (given list_refusal r u e))
 
-change_leads : LayersFit → (a : Asked) → Stands a → (c : EditCommand) → IsWritten c → Leads a (performed_or_no a (change_on (replica_of a) c))
-change_leads fit a s c written =
-    allowed_leads a s (change_of (site_items a) c) (λ u e. fit.changes (site_items a) c u written s.sound e) (λ u e p. fit.changes_stand (site_items a) c u written s.sound p e)
+change_leads : (a : Asked) → Stands a → (c : EditCommand) → IsFormed c → (AllPass may_stand a.page.items → InsertsWell c) → Leads a (performed_or_no a (change_on (replica_of a) c))
+change_leads a s c formed well =
+    allowed_leads a s (change_of (site_items a) c) (λ u e. formed_fits (site_items a) c u formed s.sound e) (λ u e p. standing_stands (site_items a) c u (well p.0) s.sound p.1 e)
 
-erased_leads : LayersFit → (a : Asked) → Stands a → (r : Result Selection Refusal) → Leads a (erased_or_no a r)
-erased_leads fit a s (Err refusal) = tt
-erased_leads fit a s (Ok sel) = change_leads fit a s (change.Remove (lower sel) (higher sel)) tt
+edit_leads : (a : Asked) → Stands a → (c : EditCommand) → IsRead c → Leads a (performed_or_no a (change_on (replica_of a) (completed a.page.items c)))
+edit_leads a s c read =
+    change_leads a s (completed a.page.items c) (completed_is_formed a.page.items s.opened.apart c read) (λ p. completed_inserts_well a.page.items p c read)
+
+erased_leads : (a : Asked) → Stands a → (r : Result Selection Refusal) → Leads a (erased_or_no a r)
+erased_leads a s (Err refusal) = tt
+erased_leads a s (Ok sel) = change_leads a s (change.Remove (lower sel) (higher sel)) tt (λ p. tt)
 
 show_leads : (a : Asked) (from to : ℕ) → Leads a (items_shown_or_no a from to)
 show_leads a from to =
@@ -387,7 +408,7 @@ tell_leads : (a : Asked) → Stands a → LeadsBy (Some a.k) a (told_outcome a)
 tell_leads a s = one_event a s (Tell a.k) _ (λ k before. refl) tt tt (λ p. tt)
     (of_member a s (λ m. events.with_site a.k m (with_told m.site) a.session))
 
-pub asked_leads : LayersFit → (a : Asked) → Stands a → (r : Request) → RequestWritten r → LeadsBy (teller r a.k) a (request_outcome a r)
+pub asked_leads : LayersFit → (a : Asked) → Stands a → (r : Request) → RequestRead r → LeadsBy (teller r a.k) a (request_outcome a r)
 asked_leads fit a s request.Html o = stays a
 asked_leads fit a s request.Tree o = stays a
 asked_leads fit a s request.Refs o = stays a
@@ -401,19 +422,22 @@ asked_leads fit a s request.Tell o = tell_leads a s
 asked_leads fit a s (request.ShowItems from to) o = show_leads a from (unwrap_or to (length (site_items a)))
 asked_leads fit a s (request.At at) o = node_leads a at
 asked_leads fit a s (request.Near at dir) o = near_leads a at dir
-asked_leads fit a s (request.Edit c) o = change_leads fit a s c o
+asked_leads fit a s (request.Edit c) o = edit_leads a s c o
 asked_leads fit a s (request.Batch cmds) o =
-    batch_leads a s (batch_on (replica_of a) cmds) (λ ts e. batch_may fit 0 cmds (replica_of a) ts o s.sound e) (λ ts e p. batch_stand fit 0 cmds (replica_of a) ts o s.sound p e)
+    let done = map (completed a.page.items) cmds in
+    let formed = all_completed_formed a.page.items s.opened.apart cmds o in
+    batch_leads a s (batch_on (replica_of a) done) (λ ts e. batch_may 0 done (replica_of a) ts formed s.sound e)
+    (λ ts e p. batch_stand 0 done (replica_of a) ts formed (all_completed_insert_well a.page.items p.0 cmds o) s.sound p.1 e)
 asked_leads fit a s (request.Select anchor focus) o = select_leads a s anchor focus
 asked_leads fit a s (request.Move dir by keep) o =
     moved_leads a s keep (next_place (site_items a) (replica_of a).selection.focus dir by) (λ at e. place_stands (site_items a) (replica_of a).selection.focus dir by at s.sound.lawful e)
 asked_leads fit a s (request.TypeText text) o =
     let sel = (replica_of a).selection in
     let may : (ts : List Transaction) → batch_on (replica_of a) (typing sel text) ≡ Ok ts → AllMayRun ts (site_items a) =
-    λ ts e. batch_may fit 0 (typing sel text) (replica_of a) ts (typing_written sel text) s.sound e in
+    λ ts e. batch_may 0 (typing sel text) (replica_of a) ts (typing_formed sel text) s.sound e in
     typed_leads a s (batch_on (replica_of a) (typing sel text)) may (λ ts e. typing_after (replica_of a) sel text ts o e (may ts e))
-    (λ ts e p. batch_stand fit 0 (typing sel text) (replica_of a) ts (typing_written sel text) s.sound p e)
-asked_leads fit a s (request.Erase dir by) o = erased_leads fit a s (to_erase (replica_of a) dir by)
+    (λ ts e p. batch_stand 0 (typing sel text) (replica_of a) ts (typing_formed sel text) (typing_inserts_well sel text) s.sound p.1 e)
+asked_leads fit a s (request.Erase dir by) o = erased_leads a s (to_erase (replica_of a) dir by)
 asked_leads fit a s (request.Grid at) o = grid_leads a (grid (site_items a) at)
 asked_leads fit a s (request.RowIn at row) o = table_leads a s (row_in (site_items a) at row) (λ t e. fit.moves.row_in (site_items a) at row t s.sound e) (λ t e. fit.moves_stand.row_in (site_items a) at row t s.sound e)
 asked_leads fit a s (request.RowOut at row) o = table_leads a s (row_out (site_items a) at row) (λ t e. fit.moves.row_out (site_items a) at row t s.sound e) (λ t e. fit.moves_stand.row_out (site_items a) at row t s.sound e)
@@ -421,4 +445,4 @@ asked_leads fit a s (request.ColIn at column) o = table_leads a s (col_in (site_
 asked_leads fit a s (request.ColOut at column) o = table_leads a s (col_out (site_items a) at column) (λ t e. fit.moves.col_out (site_items a) at column t s.sound e) (λ t e. fit.moves_stand.col_out (site_items a) at column t s.sound e)
 asked_leads fit a s (request.Indent at) o = list_leads a s (indent (site_items a) at) (λ t e. fit.moves.indent (site_items a) at t s.sound e) (λ t e. fit.moves_stand.indent (site_items a) at t s.sound e)
 asked_leads fit a s (request.Outdent at) o = list_leads a s (outdent (site_items a) at) (λ t e. fit.moves.outdent (site_items a) at t s.sound e) (λ t e. fit.moves_stand.outdent (site_items a) at t s.sound e)
-asked_leads fit a s (request.Revoke entry) o = revoked_leads a s entry
+asked_leads fit a s (request.Revoke entry live) o = revoked_leads a s entry live

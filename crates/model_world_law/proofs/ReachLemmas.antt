@@ -12,14 +12,14 @@ use Rattle.model_page.specs.OpenPage.{read_page}
 use Rattle.model_page_write.specs.PageText.{write}
 use Rattle.model_page_law.proofs.OpenPageLemmas.{read_is_within}
 use Rattle.model_page_law.proofs.KeptLemmas.{opened_is_written_back}
-use Rattle.model_site.specs.Replica.{opened_with}
+use Rattle.model_site.specs.Replica.{Replica, opened_with}
 use Rattle.model_site.specs.Site.{pending}
 use Rattle.model_site.specs.Session.{Session, Member, started}
 use Rattle.model_site.specs.Events.{Event, happens, run}
 use Rattle.model_site_law.specs.MayHappen.{AllMayHappen}
 use Rattle.model_site_law.specs.SelectionLaws.{AllSelectWithin}
 use Rattle.model_site_law.proofs.BeginLemmas.{store_begins}
-use Rattle.model_site_law.proofs.LawLemmas.{list_is_replay, all_entries_run, list_is_sound, acks_count, run_base, sites_meet, store_holds, first_replica_opens, revoke_leaves_out}
+use Rattle.model_site_law.proofs.LawLemmas.{list_is_replay, all_entries_run, list_is_sound, acks_count, run_base, sites_meet, store_holds, first_replica_opens, live_revoke_gives_back, live_revoke_is_without, revoke_leaves_out}
 use Rattle.model_site_law.proofs.CountLemmas.{seen_is_committed, sites_stay}
 use Rattle.model_site_law.proofs.FreshSessionLemmas.{undone_at_once, undone_is_first}
 use Rattle.model_site_law.proofs.QuietLemmas.{quiet_sites_meet}
@@ -36,11 +36,12 @@ use Rattle.model_world.specs.Opening.{open_page}
 use Rattle.model_world.specs.Answers.{Outcome, Asked, request_outcome}
 use Rattle.ve_base.specs.Limits.{max_line}
 use Rattle.model_world.specs.World.{World, Closed, Open, Answer, opened_or_no, on_page, asked_of, answer_of, answered_if, answer, reply_and_next, reply, world_after}
-use Rattle.model_world_law.specs.Fit.{RequestWritten, LayersFit}
+use Rattle.model_world_law.specs.Fit.{RequestRead, LayersFit}
 use Rattle.model_world_law.specs.Reached.{Becomes, IsReached, WorldReached, EveryItemStands, EveryWorldIsReached, SiteHolds, EverySiteHolds, SitesMeet, QuietSitesMeet, UneditedIsWrittenBack}
 use Rattle.std.specs.List.{AllByRecursion}
 use Rattle.model_site_law.specs.ItemLaws.{AllPass, Inserts}
 use Rattle.model_site_law.specs.Protocol.{Every}
+use Rattle.model_site_law.proofs.HintLemmas.{hints_stand_beside}
 use Rattle.model_site_law.proofs.ItemLemmas.{items_keep}
 use Rattle.model_world_law.specs.Standing.{may_stand}
 use Rattle.model_world_law.specs.ViewLines.{teller}
@@ -50,6 +51,7 @@ use Rattle.model_world_law.proofs.LinkLemmas.{Stands, LeadsBy, asked_leads}
 use Rattle.model_world_law.proofs.WrittenLemmas.{lines_are_written}
 use Rattle.model_world_law.proofs.ChangeLemmas.{given, changes_fit, pages_are_sound}
 use Rattle.model_world_law.proofs.BuilderLemmas.{moves_fit}
+use Rattle.model_world_law.proofs.CompletedLemmas.{completed_fit}
 
 pub run-append : (es fs : List Event) (w : Session) → run w (es ++ fs) ≡ run (run w es) fs
 run-append [] fs w = refl
@@ -77,6 +79,13 @@ reached_stand lines o w k m r e u =
     items_keep may_stand (opened_with o.items) r.sites r.events k m setting_keeps r.opens r.may (pages_stand r.text o u r.opened) (r.inserts u)
     (ap (λ (v : Session). slice_get v.members k) (sym r.same) ∙ e)
 
+-- the base has the page's items, which may stand
+base_items : (lines : List (List ℕ)) (o : Opened) (w : Session) → IsReached lines o w → w.base.items ≡ o.items
+base_items lines o w r = ap (λ (v : Session). v.base.items) r.same ∙ ap (λ (b : Replica). b.items) (run_base r.events (started (opened_with o.items) r.sites))
+
+base_stands : (lines : List (List ℕ)) (o : Opened) (w : Session) → IsReached lines o w → IsUtf8 o.page → AllPass may_stand w.base.items
+base_stands lines o w r u = subst (AllPass may_stand) (sym (base_items lines o w r)) (pages_stand r.text o u r.opened)
+
 -- events lead on from a session that is reached, at one more line
 further : {t : Option ℕ} (past : List (List ℕ)) (line : List ℕ) (o : Opened) (w next : Session) → IsReached past o w → Becomes t w next → IsReached (past ++ line ∷ []) o next
 further past line o w next r b =
@@ -97,14 +106,14 @@ further past line o w next r b =
       opens = r.opens;
       may = may-append r.events b.events start r.may (subst (λ v. AllMayHappen v b.events) r.same b.may);
       within = within-append r.events b.events start r.within (subst (λ v. AllSelectWithin v b.events) r.same b.within);
-      inserts = λ u. inserts-append r.events b.events (r.inserts u) (b.inserts (every_from (λ m. AllPass may_stand m.site.replica.items) w.members (λ k m e. reached_stand past o w k m r e u)));
+      inserts = λ u. inserts-append r.events b.events (r.inserts u) (b.inserts (base_stands past o w r u) (every_from (λ m. AllPass may_stand m.site.replica.items) w.members (λ k m e. reached_stand past o w k m r e u)));
       same = same;
     }
 
 -- a line that changes nothing
 unchanged : (past : List (List ℕ)) (line : List ℕ) (w : World) → WorldReached past w → WorldReached (past ++ line ∷ []) w
 unchanged past line Closed reached = tt
-unchanged past line (Open o w) reached = further {t = None} past line o w w reached (record { events = []; may = tt; within = tt; inserts = λ every. tt; told = λ k before. refl; same = refl })
+unchanged past line (Open o w) reached = further {t = None} past line o w w reached (record { events = []; may = tt; within = tt; inserts = λ base every. tt; told = λ k before. refl; same = refl })
 
 -- the site that is asked stands
 pub site_stands : (past : List (List ℕ)) (o : Opened) (w : Session) (k : ℕ) (m : Member) → IsReached past o w → slice_get w.members k ≡ Some m →
@@ -116,6 +125,8 @@ site_stands past o w k m r e =
       there = e;
       sound = list_is_sound base r.sites r.events k m r.opens r.may there;
       selection = selection_stands base r.sites r.events k m r.opens (first_selection_stands o.items) r.may r.within there;
+      opened = pages_are_sound r.text o r.opened;
+      base = base_items past o w r;
     }
 
 -- ---- answers
@@ -129,14 +140,14 @@ page_reached : (t : Option ℕ) (past : List (List ℕ)) (line : List ℕ) (o : 
 page_reached t past line o w reached a e (Ok r) b = further past line o w r.1 reached (subst (λ v. Becomes t v r.1) e b)
 page_reached t past line o w reached a e (Err r) b = tt
 
-member_reached : LayersFit → (past : List (List ℕ)) (line : List ℕ) (o : Opened) (w : Session) → IsReached past o w → (r : Request) (k : ℕ) → RequestWritten r →
+member_reached : LayersFit → (past : List (List ℕ)) (line : List ℕ) (o : Opened) (w : Session) → IsReached past o w → (r : Request) (k : ℕ) → RequestRead r →
     (x : Option Member) → slice_get w.members k ≡ x → AnswerReached (past ++ line ∷ []) (asked_of o w r k x)
 member_reached fit past line o w reached r k written None e = tt
 member_reached fit past line o w reached r k written (Some m) e =
     let a : Asked = record { page = o; session = w; k = k; member = m } in
     page_reached (teller r k) past line o w reached a refl (request_outcome a r) (asked_leads fit a (site_stands past o w k m reached e) r written)
 
-ask_reached : LayersFit → (past : List (List ℕ)) (line : List ℕ) (w : World) → WorldReached past w → (r : Request) (k : ℕ) → RequestWritten r →
+ask_reached : LayersFit → (past : List (List ℕ)) (line : List ℕ) (w : World) → WorldReached past w → (r : Request) (k : ℕ) → RequestRead r →
     AnswerReached (past ++ line ∷ []) (answer_of w (Ask r k))
 ask_reached fit past line Closed reached r k written = tt
 ask_reached fit past line (Open o w) reached r k written = member_reached fit past line o w reached r k written (slice_get w.members k) refl
@@ -194,6 +205,7 @@ lines_reached fit (line ∷ lines) past w reached =
 pub layers_fit : LayersFit
 layers_fit = record {
   lines = lines_are_written;
+  completed = completed_fit;
   changes = changes_fit;
   moves = moves_fit;
   pages = pages_are_sound;
@@ -207,7 +219,7 @@ every_world_is_reached lines = lines_reached layers_fit lines [] Closed tt
 
 -- ---- each site
 
-site_holds : (lines : List (List ℕ)) (o : Opened) (w : Session) (k : ℕ) (m : Member) → IsReached lines o w → slice_get w.members k ≡ Some m → SiteHolds (opened_with o.items) w m
+pub site_holds : (lines : List (List ℕ)) (o : Opened) (w : Session) (k : ℕ) (m : Member) → IsReached lines o w → slice_get w.members k ≡ Some m → SiteHolds (opened_with o.items) w m
 site_holds lines o w k m r e =
     let base = opened_with o.items in
     let there = ap (λ (v : Session). slice_get v.members k) (sym r.same) ∙ e in
@@ -217,12 +229,15 @@ site_holds lines o w k m r e =
       list = list_is_replay base r.sites r.events k m r.opens r.may there;
       runs = all_entries_run base r.sites r.events k m r.opens r.may there;
       seen = seen_is_committed base r.sites r.events k m r.opens r.may there;
+      beside = hints_stand_beside base r.sites r.events k m r.opens r.may there;
       stored = store_holds base r.sites r.events k m r.opens r.may there;
       distinct = store_is_distinct base r.sites r.events k m r.opens (first_store_is_distinct o.items) r.may there;
       begins = store_begins base r.sites r.events k m r.opens r.may there;
       selection = selection_stands base r.sites r.events k m r.opens (first_selection_stands o.items) r.may r.within there;
       acknowledged = acks_count base r.sites r.events k m r.opens r.may there;
       revoked = λ i next below e. revoke_leaves_out base r.sites r.events k m r.opens r.may there i next below e;
+      revoked_live = λ i next below e. live_revoke_is_without base r.sites r.events k m r.opens r.may there i next below e;
+      given_back = λ i below none. live_revoke_gives_back base r.sites r.events k m r.opens r.may there i below none;
       undone_at_once = λ ts next may e. undone_at_once base r.sites r.events k m r.opens r.may there ts next may e;
       undone = undone_is_first base r.sites r.events k m r.opens r.may there;
     })

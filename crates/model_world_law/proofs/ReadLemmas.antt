@@ -6,6 +6,7 @@ use Rattle.std.proofs.lemmas.Bool.{and_parts, or_parts}
 use Rattle.serde_json.specs.Data.{Data, null, boolean, number, string, array, object, Members}
 use Rattle.serde_json.specs.Find.{get_member, as_array, as_object}
 use Rattle.ve_kinds.specs.declared.kind.Kind.{Kind}
+use Rattle.ve_kinds.specs.Table.{is_element}
 use Rattle.ve_base.specs.declared.attrs.Attr.{Attr}
 use Rattle.ve_base.specs.declared.marks.Mark as base
 use Rattle.ve_base.specs.Names.{names, NamesApart}
@@ -18,9 +19,9 @@ use Rattle.model_edit.specs.declared.wrap_plan.Shape.{Shape}
 use Rattle.model_world.specs.declared.edit_command.OpWords.{OpWords}
 use Rattle.model_world.specs.declared.edit_command.OpWords.TheVariants as op
 use Rattle.model_world.specs.Values.{such_that, number_in, text_in, text_or_null_in, list_in, json_values, all_read, pair_in, member_in, read_or, member_or}
-use Rattle.model_world.specs.Attributes.{name_in, attr_in, attrs_in, are_apart, are_free, free_attrs_in, marks_in, element_in, branch_in, shape_in, shapes_in}
+use Rattle.model_world.specs.Attributes.{name_in, attr_in, attrs_in, are_allowed, are_apart, are_free, allowed_attrs_in, free_attrs_in, marks_in, kind_in, branch_in, shape_in, shapes_in}
 use Rattle.model_edit.specs.Insert.{text_pieces}
-use Rattle.model_world.specs.ItemWords.{white_in, may_open, opening_with, opening_in, may_close, closing_in, bracket_in, marked_text_in, items_in, all_items_in, one_list}
+use Rattle.model_world.specs.ItemWords.{white_in, may_open, Provenance, provenance_in, opening_attrs_in, opening_with, opening_in, may_close, closing_in, bracket_in, marked_text_in, items_in, all_items_in, one_list}
 use Rattle.model_world.specs.Operations.{removal_in, setting_in, op_by, op_in, words_are_normal, ops_in}
 use Rattle.model_world_law.specs.Fit.{OpsApart}
 use Rattle.model_edit_law.specs.ApartLaws.{ShapesApart}
@@ -122,6 +123,9 @@ apart (a ∷ attrs) h =
 pub attrs_apart : (json : Data) → Of NamesApart (attrs_in json)
 attrs_apart json = Of-such_that NamesApart are_apart (list_in attr_in json) (Of-always (λ attrs. are_apart attrs ≡ true → NamesApart attrs) (list_in attr_in json) apart)
 
+allowed_attrs_apart : (exact : Bool) (json : Data) → Of NamesApart (allowed_attrs_in exact json)
+allowed_attrs_apart exact json = Of-passing NamesApart (are_allowed exact) (attrs_in json) (attrs_apart json)
+
 pub free_attrs_apart : (json : Data) → Of NamesApart (free_attrs_in json)
 free_attrs_apart json = Of-passing NamesApart are_free (attrs_in json) (attrs_apart json)
 
@@ -149,66 +153,72 @@ shapes_apart json = Of-weaken (Each ShapeApart) ShapesApart (shapes_in json) (Of
 
 -- ---- items
 
-pub opening_with_apart : (kind : Kind) (attrs : List Attr) (marks : List base.Mark) (pre : List ℕ) → NamesApart attrs → Of NamesApartIn (opening_with kind attrs marks pre)
-opening_with_apart kind attrs marks pre p = Of-choice NamesApartIn (may_open kind marks pre) _ None p tt
+pub opening_with_apart : (kind : Kind) (attrs : List Attr) (marks : List base.Mark) (pre : List ℕ) (from : Provenance) → NamesApart attrs → Of NamesApartIn (opening_with kind attrs marks pre from)
+opening_with_apart kind attrs marks pre from p = Of-choice NamesApartIn (may_open kind marks pre) _ None p tt
 
-pub opening_apart : (ms : Members) (kind : Kind) → Of NamesApartIn (opening_in ms kind)
-opening_apart ms kind =
-    Of-then_with NamesApart NamesApartIn _ (member_or (codes "attrs") [] free_attrs_in ms) (Of-member_or NamesApart (codes "attrs") [] free_attrs_in ms tt free_attrs_apart) (λ attrs p.
-    Of-then NamesApartIn _ (member_or (codes "marks") [] marks_in ms) (λ marks.
+opening_attrs_apart : (exact : Bool) (ms : Members) (kind : Kind) → Of NamesApart (opening_attrs_in exact ms kind)
+opening_attrs_apart exact ms kind =
+    Of-choice NamesApart (is_element kind) (member_or (codes "attrs") [] (allowed_attrs_in exact) ms) (Some [])
+    (Of-member_or NamesApart (codes "attrs") [] (allowed_attrs_in exact) ms tt (allowed_attrs_apart exact)) tt
+
+pub opening_apart : (exact : Bool) (ms : Members) (kind : Kind) → Of NamesApartIn (opening_in exact ms kind)
+opening_apart exact ms kind =
+    Of-then_with NamesApart NamesApartIn _ (opening_attrs_in exact ms kind) (opening_attrs_apart exact ms kind) (λ attrs p.
+    Of-then NamesApartIn _ (member_or (codes "marks") [] (marks_in exact) ms) (λ marks.
     Of-then NamesApartIn _ (member_or (codes "pre") [] white_in ms) (λ pre.
-    opening_with_apart kind attrs marks pre p)))
+    Of-then NamesApartIn _ (provenance_in exact ms kind) (λ from.
+    opening_with_apart kind attrs marks pre from p))))
 
 pub closing_apart : (ms : Members) (kind : Kind) → Of NamesApartIn (closing_in ms kind)
 closing_apart ms kind = Of-then NamesApartIn _ (member_or (codes "pre") [] white_in ms) (λ pre. Of-choice NamesApartIn (may_close kind pre) (Some (Closing kind pre)) None tt tt)
 
-pub bracket_apart : (ms : Members) (opened closed : Option Data) → Of NamesApartIn (bracket_in ms opened closed)
-bracket_apart ms (Some opened) closed = Of-then NamesApartIn (opening_in ms) (element_in opened) (opening_apart ms)
-bracket_apart ms None closed = Of-then NamesApartIn (closing_in ms) (option_and_then element_in closed) (closing_apart ms)
+pub bracket_apart : (exact : Bool) (ms : Members) (opened closed : Option Data) → Of NamesApartIn (bracket_in exact ms opened closed)
+bracket_apart exact ms (Some opened) closed = Of-then NamesApartIn (opening_in exact ms) (kind_in exact opened) (opening_apart exact ms)
+bracket_apart exact ms None closed = Of-then NamesApartIn (closing_in ms) (option_and_then (kind_in exact) closed) (closing_apart ms)
 
-pub marked_apart : (json : Data) → Of AllNamesApart (marked_text_in json)
-marked_apart json =
+pub marked_apart : (exact : Bool) (json : Data) → Of AllNamesApart (marked_text_in exact json)
+marked_apart exact json =
     Of-then AllNamesApart _ (pair_in json) (λ pair.
     Of-then AllNamesApart _ (text_in pair.0) (λ text.
-    Of-then AllNamesApart _ (marks_in pair.1) (λ marks. apart-chars marks text)))
+    Of-then AllNamesApart _ (marks_in exact pair.1) (λ marks. apart-chars marks text)))
 
-pub items_apart : (json : Data) → Of AllNamesApart (items_in json)
-items_apart null = tt
-items_apart (boolean b) = tt
-items_apart (number n) = tt
-items_apart (string bytes) = Of-map (λ text. Unit {0}) AllNamesApart (text_pieces []) (text_in (string bytes)) (Of-always (λ text. Unit {0}) (text_in (string bytes)) (λ text. tt)) (λ text u. apart-chars [] text)
-items_apart (array items) = marked_apart (array items)
-items_apart (object ms) =
-    let bracket = bracket_in ms (get_member (codes "open") ms) (get_member (codes "close") ms) in
-    Of-map NamesApartIn AllNamesApart (λ one. one ∷ []) bracket (bracket_apart ms (get_member (codes "open") ms) (get_member (codes "close") ms)) (λ one p. (p, tt))
+pub items_apart : (exact : Bool) (json : Data) → Of AllNamesApart (items_in exact json)
+items_apart exact null = tt
+items_apart exact (boolean b) = tt
+items_apart exact (number n) = tt
+items_apart exact (string bytes) = Of-map (λ text. Unit {0}) AllNamesApart (text_pieces []) (text_in (string bytes)) (Of-always (λ text. Unit {0}) (text_in (string bytes)) (λ text. tt)) (λ text u. apart-chars [] text)
+items_apart exact (array items) = marked_apart exact (array items)
+items_apart exact (object ms) =
+    let bracket = bracket_in exact ms (get_member (codes "open") ms) (get_member (codes "close") ms) in
+    Of-map NamesApartIn AllNamesApart (λ one. one ∷ []) bracket (bracket_apart exact ms (get_member (codes "open") ms) (get_member (codes "close") ms)) (λ one p. (p, tt))
 
 pub one_list_apart : (lists : List (List PlainItem)) → Each AllNamesApart lists → AllNamesApart (one_list lists)
 one_list_apart [] p = tt
 one_list_apart (xs ∷ more) p = apart-append xs (one_list more) p.0 (one_list_apart more p.1)
 
-pub all_items_apart : (json : Data) → Of AllNamesApart (all_items_in json)
-all_items_apart json = Of-map (Each AllNamesApart) AllNamesApart one_list (list_in items_in json) (Of-list_in AllNamesApart items_in items_apart json) one_list_apart
+pub all_items_apart : (exact : Bool) (json : Data) → Of AllNamesApart (all_items_in exact json)
+all_items_apart exact json = Of-map (Each AllNamesApart) AllNamesApart one_list (list_in (items_in exact) json) (Of-list_in AllNamesApart (items_in exact) (items_apart exact) json) one_list_apart
 
 -- ---- operations
 
 abbrev pub OpApart : OpWords → Type 0
 OpApart o = OpsApart (o ∷ [])
 
-pub removal_apart : (ms : Members) (counted : Data) → Of OpApart (removal_in ms counted)
-removal_apart ms counted =
+pub removal_apart : (exact : Bool) (ms : Members) (counted : Data) → Of OpApart (removal_in exact ms counted)
+removal_apart exact ms counted =
     Of-then OpApart _ (number_in counted) (λ count.
-    Of-then_with AllNamesApart OpApart _ (member_in (codes "insert") all_items_in ms) (Of-member_in AllNamesApart (codes "insert") all_items_in ms all_items_apart) (λ insert p. (p, tt)))
+    Of-then_with AllNamesApart OpApart _ (member_in (codes "insert") (all_items_in exact) ms) (Of-member_in AllNamesApart (codes "insert") (all_items_in exact) ms (all_items_apart exact)) (λ insert p. (p, tt)))
 
 pub setting_apart : (ms : Members) → Of OpApart (setting_in ms)
 setting_apart ms = Of-then OpApart _ (member_in (codes "attr") name_in ms) (λ name. Of-then OpApart _ (member_in (codes "to") text_or_null_in ms) (λ to. tt))
 
-pub op_apart : (ms : Members) (retained removed : Option Data) → Of OpApart (op_by ms retained removed)
-op_apart ms (Some retained) removed = Of-map (λ n. Unit {0}) OpApart (λ count. op.Retain count) (number_in retained) (Of-always (λ n. Unit {0}) (number_in retained) (λ n. tt)) (λ n u. tt)
-op_apart ms None (Some removed) = removal_apart ms removed
-op_apart ms None None = setting_apart ms
+pub op_apart : (exact : Bool) (ms : Members) (retained removed : Option Data) → Of OpApart (op_by exact ms retained removed)
+op_apart exact ms (Some retained) removed = Of-map (λ n. Unit {0}) OpApart (λ count. op.Retain count) (number_in retained) (Of-always (λ n. Unit {0}) (number_in retained) (λ n. tt)) (λ n u. tt)
+op_apart exact ms None (Some removed) = removal_apart exact ms removed
+op_apart exact ms None None = setting_apart ms
 
-pub op_in_apart : (json : Data) → Of OpApart (op_in json)
-op_in_apart json = Of-then OpApart _ (as_object json) (λ ms. op_apart ms (get_member (codes "retain") ms) (get_member (codes "remove") ms))
+pub op_in_apart : (exact : Bool) (json : Data) → Of OpApart (op_in exact json)
+op_in_apart exact json = Of-then OpApart _ (as_object json) (λ ms. op_apart exact ms (get_member (codes "retain") ms) (get_member (codes "remove") ms))
 
 pub each_op : (ops : List OpWords) → Each OpApart ops → OpsApart ops
 each_op [] p = tt
@@ -219,7 +229,7 @@ each_op (op.Attr name to ∷ ops) p = each_op ops p.1
 abbrev pub OpsWritten : List OpWords → Type 0
 OpsWritten ops = (words_are_normal ops ≡ true) × OpsApart ops
 
-pub ops_written : (json : Data) → Of OpsWritten (ops_in json)
-ops_written json =
-    Of-such_that OpsWritten words_are_normal (list_in op_in json)
-    (Of-weaken (Each OpApart) (λ ops. words_are_normal ops ≡ true → OpsWritten ops) (list_in op_in json) (Of-list_in OpApart op_in op_in_apart json) (λ ops p normal. (normal, each_op ops p)))
+pub ops_written : (exact : Bool) (json : Data) → Of OpsWritten (ops_in exact json)
+ops_written exact json =
+    Of-such_that OpsWritten words_are_normal (list_in (op_in exact) json)
+    (Of-weaken (Each OpApart) (λ ops. words_are_normal ops ≡ true → OpsWritten ops) (list_in (op_in exact) json) (Of-list_in OpApart (op_in exact) (op_in_apart exact) json) (λ ops p normal. (normal, each_op ops p)))

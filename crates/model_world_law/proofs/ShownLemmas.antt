@@ -15,7 +15,7 @@ use Rattle.ve_base.specs.declared.attrs.Attr.{Attr}
 use Rattle.ve_base.specs.declared.marks.Mark.{Mark}
 use Rattle.model_world.specs.Names.{kind_name}
 use Rattle.model_world.specs.Values.{such_that, text_in, json_values, all_read, list_in}
-use Rattle.model_world.specs.Attributes.{name_in, attr_in, are_apart, attrs_in, are_free, free_attrs_in, is_mark, mark_in, marks_in, element_in}
+use Rattle.model_world.specs.Attributes.{name_in, attr_in, are_apart, attrs_in, are_allowed, allowed_attrs_in, is_mark, mark_in, marks_in, element_in}
 use Rattle.model_world.specs.Shown.{json_items, json_list, json_text, attr_shown, attrs_shown, mark_shown, marks_shown, opening_shown, closing_shown}
 use Rattle.model_world_law.specs.ShownLaws.{IsText, IsAttr, AreAttrs, IsMark, AreMarks, plain_head}
 
@@ -56,17 +56,19 @@ attr_back a p =
 attrs_back : (attrs : List Attr) → AreAttrs attrs → attrs_in (attrs_shown attrs) ≡ Some attrs
 attrs_back attrs p = ap (such_that are_apart) (list_back IsAttr attr_shown attr_in attr_back attrs p.each) ∙ passes are_apart attrs p.apart
 
-pub free_back : (attrs : List Attr) → AreAttrs attrs → are_free attrs ≡ true → free_attrs_in (attrs_shown attrs) ≡ Some attrs
-free_back attrs p f = ap (such_that are_free) (attrs_back attrs p) ∙ passes are_free attrs f
+pub allowed_back : (exact : Bool) (attrs : List Attr) → AreAttrs attrs → are_allowed exact attrs ≡ true → allowed_attrs_in exact (attrs_shown attrs) ≡ Some attrs
+allowed_back exact attrs p f = ap (such_that (are_allowed exact)) (attrs_back attrs p) ∙ passes (are_allowed exact) attrs f
 
-mark_back : (m : Mark) → IsMark m → mark_in (mark_shown m) ≡ Some m
-mark_back m p =
-    ap (λ o. option_and_then (λ tag. option_and_then (λ attrs. such_that is_mark (Some (record { tag = tag; attrs = attrs }))) (attrs_in (attrs_shown m.attrs))) o) (text_back m.tag p.tag)
-    ∙ ap (λ o. option_and_then (λ attrs. such_that is_mark (Some (record { tag = m.tag; attrs = attrs }))) o) (attrs_back m.attrs p.attrs)
-    ∙ passes is_mark m p.mark
+mark_back : (exact : Bool) (m : Mark) → IsMark exact m → mark_in exact (mark_shown m) ≡ Some m
+mark_back exact m p =
+    ap (λ o. option_and_then (λ tag. option_and_then (λ attrs. such_that (is_mark exact) (Some (record { tag = tag; attrs = attrs }))) (attrs_in (attrs_shown m.attrs))) o) (text_back m.tag p.tag)
+    ∙ ap (λ o. option_and_then (λ attrs. such_that (is_mark exact) (Some (record { tag = m.tag; attrs = attrs }))) o) (attrs_back m.attrs p.attrs)
+    ∙ passes (is_mark exact) m p.mark
 
-pub marks_back : (marks : List Mark) → AreMarks marks → marks_in (marks_shown marks) ≡ Some marks
-marks_back marks p = ap (such_that (λ ms. nat_le (length ms) max_marks)) (list_back IsMark mark_shown mark_in mark_back marks p.each) ∙ passes (λ ms. nat_le (length ms) max_marks) marks p.few
+pub marks_back : (exact : Bool) (marks : List Mark) → AreMarks exact marks → marks_in exact (marks_shown marks) ≡ Some marks
+marks_back exact marks p =
+    ap (such_that (λ ms. nat_le (length ms) max_marks)) (list_back (IsMark exact) mark_shown (mark_in exact) (mark_back exact) marks p.each)
+    ∙ passes (λ ms. nat_le (length ms) max_marks) marks p.few
 
 pub kind_back : (k : Kind) → is_element k ≡ true → element_in (json_text (kind_name k)) ≡ Some k
 unfolding page_on_literals

@@ -1,12 +1,12 @@
 -- What a site would tell leads from the list that it told last, line by line.
-use Rattle.std.proofs.Common.{◌≡◌, ℕ, nat_lt, Bool, true, false, List, [], ◌∷◌, ◌++◌, length, slice_get, Option, Some, None, Result, Ok, Err, refl, sym, ap, subst, append_assoc}
+use Rattle.std.proofs.Common.{◌≡◌, ℕ, nat_lt, Bool, true, false, List, [], ◌∷◌, ◌++◌, length, slice_get, Option, Some, None, Result, Ok, Err, refl, sym, subst}
 use Rattle.model_items.specs.declared.plain_item.PlainItem.{PlainItem}
 use Rattle.model_page.specs.PageItems.{Opened}
 use Rattle.model_site.specs.Replica.{opened_with}
-use Rattle.model_site.specs.Session.{Member, Session, started}
+use Rattle.model_site.specs.Session.{Member, Session}
 use Rattle.model_site.specs.Site.{told}
 use Rattle.model_site_law.specs.Protocol.{SessionHolds}
-use Rattle.model_site_law.specs.ViewLaws.{IsViewOf, patched, told_last, whole}
+use Rattle.model_site_law.specs.ViewLaws.{patched, told_last, whole}
 use Rattle.model_site_law.proofs.LawLemmas.{holds_in_end}
 use Rattle.model_site_law.proofs.ShownLemmas.{view_from_shows}
 use Rattle.model_site_law.proofs.ToldLemmas.{Of, run_leads, starts_of, told_shows}
@@ -21,7 +21,7 @@ use Rattle.model_world.specs.Commands.{command}
 use Rattle.model_world.specs.Opening.{open_page}
 use Rattle.model_world.specs.Answers.{Asked, Outcome, request_outcome}
 use Rattle.model_world.specs.World.{Answer, World, Closed, Open, answer, answer_of, answered_if, asked_of, on_page, opened_or_no, reply, reply_and_next, world_after}
-use Rattle.model_world_law.specs.Fit.{LayersFit, RequestWritten}
+use Rattle.model_world_law.specs.Fit.{LayersFit, RequestRead}
 use Rattle.model_world_law.specs.Reached.{IsReached, WorldReached, told_if}
 use Rattle.model_world_law.specs.ViewLines.{LinesShow, teller, told_at_line, told_if_accepted, told_if_read, told_last_line}
 use Rattle.model_world_law.proofs.LinkLemmas.{LeadsBy, asked_leads}
@@ -48,14 +48,14 @@ module _ (k : ℕ) where
       (subst (λ (v : Session). Of k (told_last k a.session b.events last) v.members) (sym b.same)
       (run_leads k b.events a.session last (session_holds past o a.session reached) all b.may))
 
-  member_leads : LayersFit → (past : List (List ℕ)) (o : Opened) (w : Session) (last : List PlainItem) → IsReached past o w → Of k last w.members → (r : Request) (j : ℕ) → RequestWritten r →
+  member_leads : LayersFit → (past : List (List ℕ)) (o : Opened) (w : Session) (last : List PlainItem) → IsReached past o w → Of k last w.members → (r : Request) (j : ℕ) → RequestRead r →
       (x : Option Member) → slice_get w.members j ≡ x → AnswerLeads (asked_of o w r j x) (told_if (teller r j) k w last)
   member_leads fit past o w last reached all r j written None e = tt
   member_leads fit past o w last reached all r j written (Some m) e =
       let a : Asked = record { page = o; session = w; k = j; member = m } in
       outcome_leads past o a (teller r j) last reached all (request_outcome a r) (asked_leads fit a (site_stands past o w j m reached e) r written)
 
-  ask_leads : LayersFit → (past : List (List ℕ)) (w : World) (last : List PlainItem) → WorldReached past w → WorldLeads w last → (r : Request) (j : ℕ) → RequestWritten r →
+  ask_leads : LayersFit → (past : List (List ℕ)) (w : World) (last : List PlainItem) → WorldReached past w → WorldLeads w last → (r : Request) (j : ℕ) → RequestRead r →
       AnswerLeads (answer_of w (Ask r j)) (told_if_read k w (Ok (Ask r j)) last)
   ask_leads fit past Closed last reached all r j written = tt
   ask_leads fit past (Open o w) last reached all r j written = member_leads fit past o w last reached all r j written (slice_get w.members j) refl

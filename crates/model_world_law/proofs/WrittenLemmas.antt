@@ -17,19 +17,19 @@ use Rattle.model_world.specs.declared.command.Command.TheVariants.{OpenPage, Ask
 use Rattle.model_world.specs.declared.field.Field.{Field}
 use Rattle.model_world.specs.declared.field.Field.TheVariants as field
 use Rattle.model_world.specs.Names.{field_name}
-use Rattle.model_world.specs.Values.{such_that, number_in, number_between, source_in, text_in, text_or_null_in, list_in, meant_by, word_in, member_in, member_or, is_some_text}
+use Rattle.model_world.specs.Values.{such_that, number_in, some_number_in, number_between, source_in, text_in, text_or_null_in, list_in, meant_by, word_in, member_in, member_or, is_some_text}
 use Rattle.model_world.specs.Members.{Reader, or_bad, required_member, optional_member, map_reader}
 use Rattle.model_world.specs.Members as members
 use Rattle.model_world.specs.Attributes.{name_in, attrs_in, branch_in, kinds_in, shapes_in}
 use Rattle.model_world.specs.Operations.{ops_in}
 use Rattle.model_world.specs.Changes.{some_text_in, some_source_in, text_marks_in, text_read, insert_read, remove_read, split_read, mark_read, wrap_read, convert_read, attr_read, apply_read, changes, reader_in, if_well_formed, change_with, change_in}
-use Rattle.model_world.specs.Commands.{some_number_in, dir_in, by_in, at_read, table_read, show_read, near_read, is_batch, batch_read, select_read, move_read, type_read, erase_read, revoke_read, requests, ask_read, open_read, commands, or_bad_command, read_by, command_in, command_or_refusal}
+use Rattle.model_world.specs.Commands.{dir_in, by_in, at_read, table_read, show_read, near_read, is_batch, batch_read, select_read, move_read, type_read, erase_read, revoke_read, requests, ask_read, open_read, commands, or_bad_command, read_by, command_in, command_or_refusal}
 use Rattle.model_world.specs.Values.{line_json}
 use Rattle.model_edit.specs.declared.wrap_plan.Shape.{Shape}
 use Rattle.model_world.specs.declared.edit_command.OpWords.{OpWords}
-use Rattle.model_world_law.specs.Standing.{OpsStand, ShapesOfElements}
-use Rattle.model_world_law.proofs.StandReadLemmas.{ops_stand, shapes_of_elements}
-use Rattle.model_world_law.specs.Fit.{IsWritten, AllWritten, RequestWritten, LinesAreWritten}
+use Rattle.model_world_law.specs.Standing.{OpsRead, ShapesOfElements}
+use Rattle.model_world_law.proofs.StandReadLemmas.{ops_read, shapes_of_elements}
+use Rattle.model_world_law.specs.Fit.{IsRead, AllRead, RequestRead, LinesAreWritten}
 use Rattle.model_edit_law.specs.ApartLaws.{ShapesApart}
 use Rattle.model_world_law.proofs.ReadLemmas.{Of-then, Of-then_with, Of-such_that, Of-passing, Of-always, Of-choice, Of-list_in, Of-member_in, Of-member_or, Of-weaken, shapes_apart, ops_written, Of, OfOk, Each, OpsWritten}
 
@@ -58,20 +58,20 @@ defaulted_is P bad default read ms d h = bad_or P bad (member_or (field_name bad
 abbrev Reads : {A : Type 0} → (A → Type 0) → Reader A → Type 0
 Reads P read = (ms : Members) → OfOk P (read ms)
 
-text_written : Reads IsWritten text_read
-text_written ms = bind IsWritten (required_member field.At number_in ms) _ (λ at. bind IsWritten (required_member field.Text some_text_in ms) _ (λ text. bind IsWritten (optional_member field.Marks text_marks.Left text_marks_in ms) _ (λ marks. tt)))
+text_written : Reads IsRead text_read
+text_written ms = bind IsRead (required_member field.At number_in ms) _ (λ at. bind IsRead (required_member field.Text some_text_in ms) _ (λ text. bind IsRead (optional_member field.Marks text_marks.Left text_marks_in ms) _ (λ marks. tt)))
 
-insert_written : Reads IsWritten insert_read
-insert_written ms = bind IsWritten (required_member field.At number_in ms) _ (λ at. bind IsWritten (required_member field.Html some_source_in ms) _ (λ html. tt))
+insert_written : Reads IsRead insert_read
+insert_written ms = bind IsRead (required_member field.At number_in ms) _ (λ at. bind IsRead (required_member field.Html some_source_in ms) _ (λ html. tt))
 
-remove_written : Reads IsWritten remove_read
-remove_written ms = bind IsWritten (required_member field.From number_in ms) _ (λ from. bind IsWritten (required_member field.To number_in ms) _ (λ to. tt))
+remove_written : Reads IsRead remove_read
+remove_written ms = bind IsRead (required_member field.From number_in ms) _ (λ from. bind IsRead (required_member field.To number_in ms) _ (λ to. tt))
 
-split_written : Reads IsWritten split_read
-split_written ms = bind IsWritten (required_member field.At number_in ms) _ (λ at. bind IsWritten (optional_member field.Depth 1 number_in ms) _ (λ depth. tt))
+split_written : Reads IsRead split_read
+split_written ms = bind IsRead (required_member field.At number_in ms) _ (λ at. bind IsRead (optional_member field.Depth 1 number_in ms) _ (λ depth. tt))
 
-mark_written : (changed : ℕ → ℕ → base.Mark → EditCommand) → ((from to : ℕ) (mark : base.Mark) → IsWritten (changed from to mark)) → Reads IsWritten (mark_read changed)
-mark_written changed h ms = bind IsWritten (required_member field.From number_in ms) _ (λ from. bind IsWritten (required_member field.To number_in ms) _ (λ to. bind IsWritten (required_member field.Tag text_in ms) _ (λ tag. bind IsWritten (optional_member field.Attrs [] attrs_in ms) _ (λ attrs. h from to (record { tag = tag; attrs = attrs })))))
+mark_written : (changed : ℕ → ℕ → base.Mark → EditCommand) → ((from to : ℕ) (mark : base.Mark) → IsRead (changed from to mark)) → Reads IsRead (mark_read changed)
+mark_written changed h ms = bind IsRead (required_member field.From number_in ms) _ (λ from. bind IsRead (required_member field.To number_in ms) _ (λ to. bind IsRead (required_member field.Tag text_in ms) _ (λ tag. bind IsRead (optional_member field.Attrs [] attrs_in ms) _ (λ attrs. h from to (record { tag = tag; attrs = attrs })))))
 
 both : {A : Type 0} (P Q : A → Type 0) (o : Option A) → Of P o → Of Q o → Of (λ x. P x × Q x) o
 both P Q None p q = tt
@@ -83,31 +83,35 @@ Shapes shapes = ShapesApart shapes × ShapesOfElements shapes
 shapes_written : (json : Data) → Of Shapes (shapes_in json)
 shapes_written json = both ShapesApart ShapesOfElements (shapes_in json) (shapes_apart json) (shapes_of_elements json)
 
-wrap_written : Reads IsWritten wrap_read
+wrap_written : Reads IsRead wrap_read
 wrap_written ms =
-    bind IsWritten (required_member field.From number_in ms) _ (λ from. bind IsWritten (required_member field.To number_in ms) _ (λ to. bind IsWritten (optional_member field.UnwrapOuter [] kinds_in ms) _ (λ unwrap_outer.
-    bind_with Shapes IsWritten (optional_member field.WrapOuter [] shapes_in ms) _ (defaulted_is Shapes field.WrapOuter [] shapes_in ms (tt, tt) shapes_written) (λ wrap_outer p.
-    bind IsWritten (optional_member field.UnwrapEach [] kinds_in ms) _ (λ unwrap_each.
-    bind_with Shapes IsWritten (optional_member field.WrapEach [] shapes_in ms) _ (defaulted_is Shapes field.WrapEach [] shapes_in ms (tt, tt) shapes_written) (λ wrap_each q. ((p.0, q.0), (p.1, q.1))))))))
+    bind IsRead (required_member field.From number_in ms) _ (λ from. bind IsRead (required_member field.To number_in ms) _ (λ to. bind IsRead (optional_member field.UnwrapOuter [] kinds_in ms) _ (λ unwrap_outer.
+    bind_with Shapes IsRead (optional_member field.WrapOuter [] shapes_in ms) _ (defaulted_is Shapes field.WrapOuter [] shapes_in ms (tt, tt) shapes_written) (λ wrap_outer p.
+    bind IsRead (optional_member field.UnwrapEach [] kinds_in ms) _ (λ unwrap_each.
+    bind_with Shapes IsRead (optional_member field.WrapEach [] shapes_in ms) _ (defaulted_is Shapes field.WrapEach [] shapes_in ms (tt, tt) shapes_written) (λ wrap_each q. ((p.0, q.0), (p.1, q.1))))))))
 
-convert_written : Reads IsWritten convert_read
-convert_written ms = bind IsWritten (required_member field.At number_in ms) _ (λ at. bind IsWritten (required_member field.Kind branch_in ms) _ (λ kind. tt))
+convert_written : Reads IsRead convert_read
+convert_written ms = bind IsRead (required_member field.At number_in ms) _ (λ at. bind IsRead (required_member field.Kind branch_in ms) _ (λ kind. tt))
 
-attr_written : Reads IsWritten attr_read
-attr_written ms = bind IsWritten (required_member field.At number_in ms) _ (λ at. bind IsWritten (required_member field.Name name_in ms) _ (λ name. bind IsWritten (required_member field.To text_or_null_in ms) _ (λ to. tt)))
+attr_written : Reads IsRead attr_read
+attr_written ms = bind IsRead (required_member field.At number_in ms) _ (λ at. bind IsRead (required_member field.Name name_in ms) _ (λ name. bind IsRead (required_member field.To text_or_null_in ms) _ (λ to. tt)))
 
 abbrev OpsAll : List OpWords → Type 0
-OpsAll ops = OpsWritten ops × OpsStand ops
+OpsAll ops = OpsWritten ops × OpsRead ops
 
-apply_written : Reads IsWritten apply_read
-apply_written ms = bind_with OpsAll IsWritten (required_member field.Ops ops_in ms) _ (needed_is OpsAll field.Ops ops_in ms (λ json. both OpsWritten OpsStand (ops_in json) (ops_written json) (ops_stand json))) (λ ops p. (p.0.0, p.0.1, p.1))
+apply_written : Reads IsRead apply_read
+apply_written ms =
+    bind IsRead (optional_member field.Exact false as_bool ms) _ (λ exact.
+    bind_with OpsAll IsRead (required_member field.Ops (ops_in exact) ms) _
+    (needed_is OpsAll field.Ops (ops_in exact) ms (λ json. both OpsWritten OpsRead (ops_in exact json) (ops_written exact json) (ops_read exact json)))
+    (λ ops p. (p.0.0, p.0.1, p.1)))
 
 -- each row's reader
 abbrev Rows : {A : Type 0} → (A → Type 0) → List (List ℕ × Reader A) → Type 0
 Rows P [] = Unit {0}
 Rows P (row ∷ rows) = Reads P row.1 × Rows P rows
 
-changes_written : Rows IsWritten changes
+changes_written : Rows IsRead changes
 changes_written = (
   text_written,
   (
@@ -140,61 +144,61 @@ well_formed : {A : Type 0} (P : A → Type 0) (r : Result A Field) → OfOk P r 
 well_formed P (Ok x) h = h
 well_formed P (Err e) h = tt
 
-change_written : (json : Data) → Of IsWritten (change_in json)
+change_written : (json : Data) → Of IsRead (change_in json)
 change_written json =
-    Of-then IsWritten change_with (as_object json) (λ ms.
-    Of-then_with (Reads IsWritten) IsWritten (λ read. if_well_formed (read ms)) (reader_in changes ms) (reader_found IsWritten changes changes_written ms) (λ read h. well_formed IsWritten (read ms) (h ms)))
+    Of-then IsRead change_with (as_object json) (λ ms.
+    Of-then_with (Reads IsRead) IsRead (λ read. if_well_formed (read ms)) (reader_in changes ms) (reader_found IsRead changes changes_written ms) (λ read h. well_formed IsRead (read ms) (h ms)))
 
 -- ---- requests
 
-each_change : (cmds : List EditCommand) → Each IsWritten cmds → AllWritten cmds
+each_change : (cmds : List EditCommand) → Each IsRead cmds → AllRead cmds
 each_change [] p = tt
 each_change (c ∷ cmds) p = (p.0, each_change cmds p.1)
 
-cmds_written : (json : Data) → Of AllWritten (such_that is_batch (list_in change_in json))
-cmds_written json = Of-passing AllWritten is_batch (list_in change_in json) (Of-weaken (Each IsWritten) AllWritten (list_in change_in json) (Of-list_in IsWritten change_in change_written json) each_change)
+cmds_written : (json : Data) → Of AllRead (such_that is_batch (list_in change_in json))
+cmds_written json = Of-passing AllRead is_batch (list_in change_in json) (Of-weaken (Each IsRead) AllRead (list_in change_in json) (Of-list_in IsRead change_in change_written json) each_change)
 
-batch_written : Reads RequestWritten batch_read
-batch_written ms = bind_with AllWritten RequestWritten (required_member field.Cmds (λ json. such_that is_batch (list_in change_in json)) ms) _ (needed_is AllWritten field.Cmds (λ json. such_that is_batch (list_in change_in json)) ms cmds_written) (λ cmds p. p)
+batch_written : Reads RequestRead batch_read
+batch_written ms = bind_with AllRead RequestRead (required_member field.Cmds (λ json. such_that is_batch (list_in change_in json)) ms) _ (needed_is AllRead field.Cmds (λ json. such_that is_batch (list_in change_in json)) ms cmds_written) (λ cmds p. p)
 
-at_written : (asked : ℕ → Request) → ((at : ℕ) → RequestWritten (asked at)) → Reads RequestWritten (at_read asked)
-at_written asked h ms = bind RequestWritten (required_member field.At number_in ms) _ (λ at. h at)
+at_written : (asked : ℕ → Request) → ((at : ℕ) → RequestRead (asked at)) → Reads RequestRead (at_read asked)
+at_written asked h ms = bind RequestRead (required_member field.At number_in ms) _ (λ at. h at)
 
-table_written : (line : Field) (asked : ℕ → ℕ → Request) → ((at n : ℕ) → RequestWritten (asked at n)) → Reads RequestWritten (table_read line asked)
-table_written line asked h ms = bind RequestWritten (required_member field.At number_in ms) _ (λ at. bind RequestWritten (required_member line number_in ms) _ (λ n. h at n))
+table_written : (line : Field) (asked : ℕ → ℕ → Request) → ((at n : ℕ) → RequestRead (asked at n)) → Reads RequestRead (table_read line asked)
+table_written line asked h ms = bind RequestRead (required_member field.At number_in ms) _ (λ at. bind RequestRead (required_member line number_in ms) _ (λ n. h at n))
 
-show_written : Reads RequestWritten show_read
-show_written ms = bind RequestWritten (optional_member field.From 0 number_in ms) _ (λ from. bind RequestWritten (optional_member field.To None some_number_in ms) _ (λ to. tt))
+show_written : Reads RequestRead show_read
+show_written ms = bind RequestRead (optional_member field.From 0 number_in ms) _ (λ from. bind RequestRead (optional_member field.To None some_number_in ms) _ (λ to. tt))
 
-select_written : Reads RequestWritten select_read
-select_written ms = bind RequestWritten (required_member field.Anchor number_in ms) _ (λ anchor. bind RequestWritten (required_member field.Focus number_in ms) _ (λ focus. tt))
+select_written : Reads RequestRead select_read
+select_written ms = bind RequestRead (required_member field.Anchor number_in ms) _ (λ anchor. bind RequestRead (required_member field.Focus number_in ms) _ (λ focus. tt))
 
-near_written : Reads RequestWritten near_read
-near_written ms = bind RequestWritten (required_member field.At number_in ms) _ (λ at. bind RequestWritten (required_member field.Dir dir_in ms) _ (λ dir. tt))
+near_written : Reads RequestRead near_read
+near_written ms = bind RequestRead (required_member field.At number_in ms) _ (λ at. bind RequestRead (required_member field.Dir dir_in ms) _ (λ dir. tt))
 
-move_written : Reads RequestWritten move_read
-move_written ms = bind RequestWritten (required_member field.Dir dir_in ms) _ (λ dir. bind RequestWritten (optional_member field.By Cluster by_in ms) _ (λ by. bind RequestWritten (optional_member field.Keep false as_bool ms) _ (λ keep. tt)))
+move_written : Reads RequestRead move_read
+move_written ms = bind RequestRead (required_member field.Dir dir_in ms) _ (λ dir. bind RequestRead (optional_member field.By Cluster by_in ms) _ (λ by. bind RequestRead (optional_member field.Keep false as_bool ms) _ (λ keep. tt)))
 
 some_text : (json : Data) → Of (λ text. 0 < length text) (some_text_in json)
 some_text json =
     Of-such_that (λ text. 0 < length text) is_some_text (text_in json)
     (Of-always (λ text. is_some_text text ≡ true → 0 < length text) (text_in json) (λ text h. ltb-true 0 (length text) h))
 
-type_written : Reads RequestWritten type_read
+type_written : Reads RequestRead type_read
 type_written ms =
-    bind_with (λ text. 0 < length text) RequestWritten (required_member field.Text some_text_in ms) _ (needed_is (λ text. 0 < length text) field.Text some_text_in ms some_text) (λ text p. p)
+    bind_with (λ text. 0 < length text) RequestRead (required_member field.Text some_text_in ms) _ (needed_is (λ text. 0 < length text) field.Text some_text_in ms some_text) (λ text p. p)
 
-erase_written : Reads RequestWritten erase_read
-erase_written ms = bind RequestWritten (required_member field.Dir dir_in ms) _ (λ dir. bind RequestWritten (optional_member field.By Cluster by_in ms) _ (λ by. tt))
+erase_written : Reads RequestRead erase_read
+erase_written ms = bind RequestRead (required_member field.Dir dir_in ms) _ (λ dir. bind RequestRead (optional_member field.By Cluster by_in ms) _ (λ by. tt))
 
-revoke_written : Reads RequestWritten revoke_read
-revoke_written ms = bind RequestWritten (required_member field.Entry number_in ms) _ (λ entry. tt)
+revoke_written : Reads RequestRead revoke_read
+revoke_written ms = bind RequestRead (required_member field.Entry number_in ms) _ (λ entry. bind RequestRead (optional_member field.Live false as_bool ms) _ (λ live. tt))
 
-edit_rows : (rows : List (List ℕ × Reader EditCommand)) → Rows IsWritten rows → Rows RequestWritten (map (λ (row : List ℕ × Reader EditCommand). (row.0, map_reader (λ c. request.Edit c) row.1)) rows)
+edit_rows : (rows : List (List ℕ × Reader EditCommand)) → Rows IsRead rows → Rows RequestRead (map (λ (row : List ℕ × Reader EditCommand). (row.0, map_reader (λ c. request.Edit c) row.1)) rows)
 edit_rows [] h = tt
-edit_rows (row ∷ rows) h = ((λ ms. bind_with IsWritten RequestWritten (row.1 ms) _ (h.0 ms) (λ c p. p)), edit_rows rows h.1)
+edit_rows (row ∷ rows) h = ((λ ms. bind_with IsRead RequestRead (row.1 ms) _ (h.0 ms) (λ c p. p)), edit_rows rows h.1)
 
-requests_written : Rows RequestWritten requests
+requests_written : Rows RequestRead requests
 requests_written = (
   (λ ms. tt),
   (
@@ -279,11 +283,11 @@ requests_written = (
 
 abbrev CommandWritten : Command → Type 0
 CommandWritten (OpenPage page sites) = Unit {0}
-CommandWritten (Ask asked k) = RequestWritten asked
+CommandWritten (Ask asked k) = RequestRead asked
 
-ask_rows : (rows : List (List ℕ × Reader Request)) → Rows RequestWritten rows → Rows CommandWritten (map (λ (row : List ℕ × Reader Request). (row.0, ask_read row.1)) rows)
+ask_rows : (rows : List (List ℕ × Reader Request)) → Rows RequestRead rows → Rows CommandWritten (map (λ (row : List ℕ × Reader Request). (row.0, ask_read row.1)) rows)
 ask_rows [] h = tt
-ask_rows (row ∷ rows) h = ((λ ms. bind_with RequestWritten CommandWritten (row.1 ms) _ (h.0 ms) (λ asked p. bind CommandWritten (optional_member field.Site 0 number_in ms) _ (λ site. p))), ask_rows rows h.1)
+ask_rows (row ∷ rows) h = ((λ ms. bind_with RequestRead CommandWritten (row.1 ms) _ (h.0 ms) (λ asked p. bind CommandWritten (optional_member field.Site 0 number_in ms) _ (λ site. p))), ask_rows rows h.1)
 
 open_written : Reads CommandWritten open_read
 open_written ms = bind CommandWritten (required_member field.Page source_in ms) _ (λ page. bind CommandWritten (optional_member field.Sites 1 (number_between 1 max_sites) ms) _ (λ sites. tt))

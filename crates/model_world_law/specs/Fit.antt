@@ -1,5 +1,6 @@
--- Promises of the layers below the world. Lines are read as written. Their commands give
--- transactions that are reduced and put in names apart. Pages open as sound lists.
+-- Promises of the layers below the world. Lines are read as written, and completed from the page that
+-- was opened. Their commands give transactions that are reduced and put in names apart. Pages open as
+-- sound lists.
 use Rattle.std.specs.Prelude.{◌≡◌, ◌<◌, ℕ, true, List, [], ◌∷◌, length, Ok, IsUtf8}
 use Rattle.model_items.specs.declared.plain_item.PlainItem.{PlainItem}
 use Rattle.model_change.specs.Attributes.{AllNamesApart}
@@ -18,10 +19,11 @@ use Rattle.model_world.specs.declared.command.Request.TheVariants as request
 use Rattle.model_world.specs.declared.command.Command.TheVariants.{Ask}
 use Rattle.model_world.specs.Operations.{words_are_normal}
 use Rattle.model_world.specs.Commands.{command}
+use Rattle.model_world.specs.Completed.{completed}
 use Rattle.model_world.specs.Edits.{change_of}
 use Rattle.model_world.specs.Opening.{open_page}
 use Rattle.model_site_law.specs.ItemLaws.{AllPass}
-use Rattle.model_world_law.specs.Standing.{OpsStand, PlanOfElements, may_stand}
+use Rattle.model_world_law.specs.Standing.{OpsRead, OpsStand, PlanOfElements, may_stand}
 
 -- ---- what reading a line makes sure of
 
@@ -49,8 +51,30 @@ RequestWritten (request.Batch cmds) = AllWritten cmds
 RequestWritten (request.TypeText text) = 0 < length text
 RequestWritten _ = Unit {0}
 
+-- The same of a change as a line writes it, but that a leaf that no tag spells may have an origin in
+-- place of its head. No line writes a change whose origin is bad.
+abbrev pub IsRead : EditCommand → Type 0
+IsRead (change.Apply ops) = (words_are_normal ops ≡ true) × OpsApart ops × OpsRead ops
+IsRead (change.Wrap from to plan) = PlanApart plan × PlanOfElements plan
+IsRead (change.NoOrigin origin) = ⊥
+IsRead _ = Unit {0}
+
+abbrev pub AllRead : List EditCommand → Type 0
+AllRead [] = Unit {0}
+AllRead (c ∷ cs) = IsRead c × AllRead cs
+
+abbrev pub RequestRead : Request → Type 0
+RequestRead (request.Edit c) = IsRead c
+RequestRead (request.Batch cmds) = AllRead cmds
+RequestRead (request.TypeText text) = 0 < length text
+RequestRead _ = Unit {0}
+
 abbrev pub LinesAreWritten : Type 0
-LinesAreWritten = (line : List ℕ) (asked : Request) (k : ℕ) → command line ≡ Ok (Ask asked k) → RequestWritten asked
+LinesAreWritten = (line : List ℕ) (asked : Request) (k : ℕ) → command line ≡ Ok (Ask asked k) → RequestRead asked
+
+-- Completed from a page that opened, of which all items may stand, it is well written.
+abbrev pub CompletedFit : Type 0
+CompletedFit = (opened : List PlainItem) (c : EditCommand) → Sound opened → AllPass may_stand opened → IsRead c → IsWritten (completed opened c)
 
 -- ---- what the layers below make of it
 
@@ -58,7 +82,7 @@ pub record Fit (t : Transaction) : Type 0 where
   pub reduced : is_reduced t ≡ true
   pub apart : InsertedApart t
 
--- a change that was read gives such a transaction on every sound list
+-- a well-written change gives such a transaction on every sound list
 abbrev pub ChangesFit : Type 0
 ChangesFit = (items : List PlainItem) (c : EditCommand) (t : Transaction) → IsWritten c → Sound items → change_of items c ≡ Ok t → Fit t
 
@@ -81,7 +105,7 @@ PagesAreSound = (page : List ℕ) (o : Opened) → open_page page ≡ Ok o → S
 abbrev pub InsertsStanding : Transaction → Type 0
 InsertsStanding t = AllPass may_stand (all_inserted t)
 
--- So it is where the list's items may stand: of each change that was read,
+-- So it is where the list's items may stand: of each well-written change,
 abbrev pub ChangesStand : Type 0
 ChangesStand = (items : List PlainItem) (c : EditCommand) (t : Transaction) → IsWritten c → Sound items → AllPass may_stand items →
     change_of items c ≡ Ok t → InsertsStanding t
@@ -105,6 +129,7 @@ pub record LayersFit : Type 0 where
   pub moves_stand : MovesStand
   pub pages_stand : PagesStand
   pub lines : LinesAreWritten
+  pub completed : CompletedFit
   pub changes : ChangesFit
   pub moves : MovesFit
   pub pages : PagesAreSound

@@ -1,5 +1,5 @@
 -- The invariant of a world, whatever lines it was given: the laws of sites and server hold of it.
-use Rattle.std.specs.Prelude.{◌≡◌, ◌≤◌, ◌<◌, ℕ, List, [], ◌∷◌, ◌++◌, length, slice_get, Option, Some, None, Ok, IsUtf8}
+use Rattle.std.specs.Prelude.{◌≡◌, ◌≤◌, ◌<◌, ℕ, true, false, List, [], ◌∷◌, ◌++◌, length, slice_get, Option, Some, None, Ok, IsUtf8}
 use Rattle.std.specs.List.{AllByRecursion}
 use Rattle.model_items.specs.Plain.{AreDistinct}
 use Rattle.model_items.specs.declared.plain_item.PlainItem.{PlainItem}
@@ -9,10 +9,11 @@ use Rattle.model_change.specs.Transaction.{Transaction}
 use Rattle.model_page.specs.PageItems.{Opened}
 use Rattle.model_page_write.specs.PageText.{write}
 use Rattle.model_site.specs.Replica.{Replica, opened_with}
-use Rattle.model_site.specs.Site.{Site, pending, entries_of, revoke_entry, undo, with_entry}
+use Rattle.model_site.specs.Live.{live}
+use Rattle.model_site.specs.Site.{Site, pending, entries_of, hinted_entries, revoke_entry, undo, with_entry}
 use Rattle.model_site.specs.Session.{SiteFeed, Ack, Member, Session, started}
 use Rattle.model_site.specs.Events.{Event, Tell, run}
-use Rattle.model_site_law.specs.Laws.{IsWithout}
+use Rattle.model_site_law.specs.Laws.{HintsBeside, IsListBefore, IsWithout, IsWithoutAmong}
 use Rattle.model_site_law.specs.Sound.{Sound, AllIn, AllMayRun, Opens}
 use Rattle.model_site_law.specs.MayHappen.{AllMayHappen}
 use Rattle.model_site_law.specs.Protocol.{Every}
@@ -36,8 +37,8 @@ pub record Becomes (teller : Option ℕ) (w next : Session) : Type 0 where
   pub events : List Event
   pub may : AllMayHappen w events
   pub within : AllSelectWithin w events
-  -- where the items of every site may stand, so may all that is inserted
-  pub inserts : Every (λ m. AllPass may_stand m.site.replica.items) w.members → AllByRecursion (Inserts may_stand) events
+  -- where the items of the page and of every site may stand, so may all that is inserted
+  pub inserts : AllPass may_stand w.base.items → Every (λ m. AllPass may_stand m.site.replica.items) w.members → AllByRecursion (Inserts may_stand) events
   pub told : (k : ℕ) (before : List PlainItem) → told_last k w events before ≡ told_if teller k w before
   pub same : next ≡ run w events
 
@@ -84,6 +85,8 @@ pub record SiteHolds (base : Replica) (w : Session) (m : Member) : Type 0 where
   pub runs : AllRun (flattened (entries_of w.committed m.site)) base.items
   -- it has seen no more entries than are committed
   pub seen : m.site.seen ≤ length w.committed
+  -- beside each entry that is committed, submitted, undone or known stands what it takes back
+  pub beside : HintsBeside w m
   -- its store has every value that its list cites, and has each value once
   pub stored : AllIn m.site.replica.store (cited m.site.replica.items)
   pub distinct : AreDistinct m.site.replica.store
@@ -95,8 +98,14 @@ pub record SiteHolds (base : Replica) (w : Session) (m : Member) : Type 0 where
   -- the answer that it takes next counts the entries that it still holds as sent
   pub acknowledged : (accepted : ℕ) (later : List SiteFeed) → m.feeds ≡ Ack accepted ∷ later → accepted ≡ length m.site.sent
   -- an entry that it takes back leaves the list that the later entries give without it
-  pub revoked : (i : ℕ) (next : Site) → i < length (entries_of w.committed m.site) → revoke_entry w.committed i m.site ≡ Ok next →
+  pub revoked : (i : ℕ) (next : Site) → i < length (entries_of w.committed m.site) → revoke_entry w.committed w.hints false i m.site ≡ Ok next →
       IsWithout (entries_of w.committed m.site) i base.items next.replica.items
+  -- so does one that it takes back under what still counts: what took each other back stands in no way
+  pub revoked_live : (i : ℕ) (next : Site) → i < length (entries_of w.committed m.site) → revoke_entry w.committed w.hints true i m.site ≡ Ok next →
+      IsWithoutAmong (hinted_entries w.committed w.hints m.site) i base.items next.replica.items
+  -- where nothing behind it counts, that is accepted, and the list before the entry is there again
+  pub given_back : (i : ℕ) → i < length (entries_of w.committed m.site) → live (hinted_entries w.committed w.hints m.site) i ≡ Ok [] →
+      IsListBefore (hinted_entries w.committed w.hints m.site) i base.items (revoke_entry w.committed w.hints true i m.site)
   -- undoing at once leaves list and store as they were
   pub undone_at_once : (ts : List Transaction) (next : Site) → AllMayRun ts m.site.replica.items → undo (with_entry ts m.site) ≡ Ok next →
       (next.replica.items ≡ m.site.replica.items) × (next.replica.store ≡ m.site.replica.store)

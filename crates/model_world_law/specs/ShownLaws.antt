@@ -1,6 +1,6 @@
 -- Replies show items as lines may write them: items with nothing but what a line can say are shown
 -- so that they are read back.
-use Rattle.std.specs.Prelude.{◌≡◌, ℕ, true, false, nat_le, List, [], ◌∷◌, length, encode_utf8_all, Some, None}
+use Rattle.std.specs.Prelude.{◌≡◌, ℕ, Bool, true, false, nat_le, List, [], ◌∷◌, length, encode_utf8_all, Some, None}
 use Rattle.std.specs.List.{AllByRecursion, list_any}
 use Rattle.std.specs.Str.{all_scalars}
 use Rattle.ve_base.specs.Limits.{max_marks}
@@ -30,13 +30,13 @@ pub record AreAttrs (attrs : List Attr) : Type 0 where
   pub each : AllByRecursion IsAttr attrs
   pub apart : are_apart attrs ≡ true
 
-pub record IsMark (m : Mark) : Type 0 where
+pub record IsMark (exact : Bool) (m : Mark) : Type 0 where
   pub tag : IsText m.tag
   pub attrs : AreAttrs m.attrs
-  pub mark : is_mark m ≡ true
+  pub mark : is_mark exact m ≡ true
 
-pub record AreMarks (marks : List Mark) : Type 0 where
-  pub each : AllByRecursion IsMark marks
+pub record AreMarks (exact : Bool) (marks : List Mark) : Type 0 where
+  pub each : AllByRecursion (IsMark exact) marks
   pub few : nat_le (length marks) max_marks ≡ true
 
 pub record IsWhite (pre : List ℕ) : Type 0 where
@@ -49,11 +49,11 @@ plain_head attrs = record { tag = []; attrs = attrs; raw = []; reference = None;
 
 -- an item that a line can write: it has no origin and is not generated
 abbrev pub CanWrite : PlainItem → Type 0
-CanWrite (Char c marks) = IsText (c ∷ []) × AreMarks marks
+CanWrite (Char c marks) = IsText (c ∷ []) × AreMarks false marks
 CanWrite (Opening kind head marks pre origin generated) =
-    (is_element kind ≡ true) × (head ≡ plain_head head.attrs) × AreAttrs head.attrs × (are_free head.attrs ≡ true) × AreMarks marks × IsWhite pre
+    (is_element kind ≡ true) × (head ≡ plain_head head.attrs) × AreAttrs head.attrs × (are_free head.attrs ≡ true) × AreMarks false marks × IsWhite pre
     × (may_open kind marks pre ≡ true) × (origin ≡ None) × (generated ≡ false)
 CanWrite (Closing kind pre) = (is_element kind ≡ true) × IsWhite pre × (may_close kind pre ≡ true)
 
 abbrev pub ShownIsRead : Type 0
-ShownIsRead = (items : List PlainItem) → AllByRecursion CanWrite items → all_items_in (items_shown items) ≡ Some items
+ShownIsRead = (items : List PlainItem) → AllByRecursion CanWrite items → all_items_in false (items_shown items) ≡ Some items

@@ -1,9 +1,10 @@
 -- Which items a page under edit may have.
-use Rattle.std.specs.Prelude.{◌≡◌, ℕ, Bool, true, Some, None, IsUtf8, ◌&&◌, nat_le, List, [], ◌∷◌, length}
+use Rattle.std.specs.Prelude.{◌≡◌, ℕ, Bool, true, false, not, is_some, Some, None, IsUtf8, ◌&&◌, ◌||◌, nat_le, List, [], ◌∷◌, length}
 use Rattle.std.specs.List.{AllByRecursion}
 use Rattle.ve_kinds.specs.Table.{is_element}
 use Rattle.ve_base.specs.Limits.{max_marks, max_open_elements}
 use Rattle.model_items.specs.declared.plain_item.PlainItem.{PlainItem}
+use Rattle.model_items.specs.declared.plain_item.PlainItem.TheVariants.{Char, Opening, Closing}
 use Rattle.ve_kinds.specs.declared.kind.Kind.{Kind}
 use Rattle.model_spelling.specs.Forest.{Forest, is_forest, spelling}
 use Rattle.model_page.specs.Editable.{item_refers}
@@ -52,3 +53,20 @@ OpsStand [] = Unit {0}
 OpsStand (op.Retain count ∷ ops) = OpsStand ops
 OpsStand (op.Remove count insert ∷ ops) = AllPass may_stand insert × OpsStand ops
 OpsStand (op.Attr name to ∷ ops) = OpsStand ops
+
+-- a leaf that no tag spells, of which the page has the head by its origin
+abbrev pub has_its_origin : PlainItem → Bool
+has_its_origin (Char c marks) = false
+has_its_origin (Opening kind head marks pre origin generated) = not (is_element kind) && is_some origin
+has_its_origin (Closing kind pre) = false
+
+-- at most 64 marks, and a head that it may stand with, or an origin in its place
+abbrev pub may_be_read : PlainItem → Bool
+may_be_read item = (item_refers item || has_its_origin item) && has_few_marks item
+
+-- of all that operations insert
+abbrev pub OpsRead : List OpWords → Type 0
+OpsRead [] = Unit {0}
+OpsRead (op.Retain count ∷ ops) = OpsRead ops
+OpsRead (op.Remove count insert ∷ ops) = AllPass may_be_read insert × OpsRead ops
+OpsRead (op.Attr name to ∷ ops) = OpsRead ops

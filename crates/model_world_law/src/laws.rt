@@ -1,5 +1,5 @@
 // The laws of worlds, each on a function that does nothing.
-ghost use Rattle.model_world_law.specs.Fit.{LinesAreWritten, ChangesFit, ChangesStand, MovesFit, MovesStand, PagesAreSound, PagesStand};
+ghost use Rattle.model_world_law.specs.Fit.{LinesAreWritten, CompletedFit, ChangesFit, ChangesStand, MovesFit, MovesStand, PagesAreSound, PagesStand};
 ghost use Rattle.model_world_law.specs.Causes.{StoreFullIsFull, MovesFillStore};
 ghost use Rattle.model_world_law.specs.Standing.{FragmentsOver, FragmentsWithin, PagesWithin};
 ghost use Rattle.model_world_law.specs.Written.{ReferencesAreWritten};
@@ -7,17 +7,21 @@ ghost use Rattle.model_world_law.specs.Pasted.{FragmentsAreChildren, PastingStay
 ghost use Rattle.model_world_law.specs.ShownLaws.{ShownIsRead};
 ghost use Rattle.model_world_law.specs.Redone.{LinesRedo};
 ghost use Rattle.model_world_law.specs.ViewLines.{LinesShow};
+ghost use Rattle.model_world_law.specs.PutBack.{ExactIsRead, PutBackStays};
+ghost use Rattle.model_world_law.specs.AheadLaws.{LinesOfTwoSitesSwap};
 ghost use Rattle.model_world_law.specs.Reached.{EveryItemStands, EveryWorldIsReached, EverySiteHolds, QuietSitesMeet, SitesMeet, UneditedIsWrittenBack};
 
 use model_edit_law::fragment_stays_lawful;
 
 /// A line that is read asks for operations in normal form, and for no opening with two attributes
-/// of one name. It asks for characters and elements alone, with at most 64 marks. A sound list is
-/// lawful and has names apart. On one, every change that was read gives a reduced transaction that
-/// puts in names apart. So do rows, columns and moved list items. Every page that opens is a sound
-/// list.
+/// of one name. It asks for characters and elements alone, with at most 64 marks, and for leaves
+/// that no tag spells, each by its origin. Completed from the page, all that it asks for may stand.
+/// A sound list is lawful and has names apart. On one, every well-written change gives a reduced
+/// transaction that puts in names apart. So do rows, columns and moved list items. Every page that
+/// opens is a sound list.
 pub fn layers_fit()
     ensures lines { LinesAreWritten }
+    ensures completed { CompletedFit }
     ensures changes { ChangesFit }
     ensures moves { MovesFit }
     ensures pages { PagesAreSound }
@@ -28,6 +32,13 @@ pub fn layers_fit()
 #[tactic(auto, using(crate::proofs::ShownItemLemmas::shown_is_read))]
 pub fn shown_is_read()
     ensures { ShownIsRead }
+{}
+
+/// Items that a reply shows are read back by a line with `exact`, but for the heads of leaves that no
+/// tag spells. A range that is removed, and put back as it is shown, leaves the list as it is.
+pub fn put_back_stays()
+    ensures read { ExactIsRead }
+    ensures stays { PutBackStays }
 {}
 
 /// Want of memory is never the cause of a refusal of a change, a row, a column or a moved list
@@ -99,6 +110,12 @@ pub fn lines_redo()
 /// the list.
 pub fn lines_show()
     ensures { LinesShow }
+{}
+
+/// Two lines that name two different sites may come in either order, unless the server has its turn
+/// in one of them and the other is a turn, too. Each has the same reply, and one world comes of them.
+pub fn lines_of_two_sites_swap()
+    ensures { LinesOfTwoSitesSwap }
 {}
 
 /// Sites that have seen as much, and have nothing pending, have one list, and so write one page.

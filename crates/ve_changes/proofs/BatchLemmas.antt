@@ -187,7 +187,7 @@ module _ (r now new : Replica) (changes rest : List EditCommand) (c : EditComman
   last = ap (λ (x : Entry). x.store_after) p.entry ∙ ap (λ (x : Replica). length x.store) (sym p.page ∙ sym ends)
 
   as_one : entry_by_value new.store (entry_with e later) ≡ entry_of (s.ts ++ p.t ∷ []) r
-  as_one = λ j. record { txs = txs j; store_before = (ap (λ (x : Entry). x.store_before) s.entry) j; store_after = last j }
+  as_one = λ j. record { txs = txs j; store_before = (ap (λ (x : Entry). x.store_before) s.entry) j; store_after = last j; takes_back = (ap (λ (x : Entry). x.takes_back) s.entry) j }
 
   pub next_so_far : SoFar r changes rest (suc i) new (entry_with e later)
   next_so_far = record {

@@ -11,3 +11,4 @@ pub mod BatchLemmas
 pub mod TypedCaretLemmas
 pub mod TypingLemmas
 mod BatchExamples
+mod CompletionLemmas

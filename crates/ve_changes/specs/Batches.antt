@@ -1,5 +1,5 @@
 -- Changes that were performed one after the other, as one entry.
-use Rattle.std.specs.Prelude.{◌≡◌, ℕ, List, [], ◌∷◌, Result, Ok, Err}
+use Rattle.std.specs.Prelude.{◌≡◌, ℕ, List, [], ◌∷◌, None, Result, Ok, Err}
 use Rattle.model_change.specs.Transaction.{Transaction}
 use Rattle.model_site.specs.Entries.{entry_of}
 use Rattle.model_site.specs.Replica.{Replica, performed}
@@ -42,4 +42,4 @@ stop_at at one.Memory = stop.Memory
 
 -- the entry of no changes, over a store of so many values
 abbrev pub no_entry : ℕ → Entry
-no_entry count = record { txs = []; store_before = count; store_after = count }
+no_entry count = record { txs = []; store_before = count; store_after = count; takes_back = None }

@@ -23,3 +23,4 @@ pub mod Applied
 pub mod HtmlStops
 pub mod Batches
 pub mod TypedCarets
+pub mod Completions

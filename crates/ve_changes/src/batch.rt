@@ -95,6 +95,7 @@ fn nothing_yet(alloc: Global, trial: &Trial) -> Entry
         txs: TxList::new(alloc),
         store_before: count,
         store_after: count,
+        takes_back: None,
     }
 }
 

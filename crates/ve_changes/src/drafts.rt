@@ -16,7 +16,7 @@ use crate::built::{
     text_like_left, unmarking_draft, wrap_draft,
 };
 use crate::pasted::pasted_draft;
-use model_world::{EditCommand, TextMarks};
+use model_world::{EditCommand, Refusal, TextMarks};
 use std::alloc::Global;
 use ve_base::Text;
 use ve_offsets::Doc;
@@ -77,5 +77,8 @@ pub fn change_draft(alloc: Global, doc: Doc<'_>, change: &EditCommand) -> Result
         }
         EditCommand::Insert { at, html } => pasted_draft(alloc, doc, *at, html),
         EditCommand::Apply { ops } => applied_draft(alloc, doc, ops.as_slice()),
+        EditCommand::NoOrigin { origin } => Err(ChangeStop::Refused(Refusal::BadOrigin {
+            origin: *origin,
+        })),
     }
 }

@@ -11,6 +11,9 @@
 //!   it. `move_draft` gives the draft of a row, a column or a list item that is moved. Each calls
 //!   one builder and names its fault (`Stops`, `HtmlStops`, `Drafts`, `Moves` in specs/). Nothing
 //!   is performed.
+//! - `completed` gives a change with what it takes from the page as it was first read: model_world's
+//!   `completed`. `FirstItems` lends that page, and a row says where the opening of an origin stands
+//!   (`Completions`). A change that takes nothing from there is moved.
 //! - `may_select`, `next_place` and `erased_range` say what may be selected, where a caret goes and
 //!   which range is erased (`Carets`). They read the page alone.
 //! - `Batch` is an attempt at changes in turn, each on the result of those before it, as one entry:
@@ -35,8 +38,10 @@ mod built;
 mod caret;
 mod carets;
 mod cited;
+mod completion;
 mod drafts;
 mod faults;
+mod first;
 mod html_faults;
 mod laws;
 mod moves;
@@ -47,8 +52,10 @@ pub use batch::Batch;
 pub use batch_stop::BatchStop;
 pub use caret::after_inserted;
 pub use carets::{carets_are_asked, erased_range, may_select, next_place};
+pub use completion::{all_completed, completed};
 pub use drafts::change_draft;
 pub use faults::ChangeStop;
+pub use first::FirstItems;
 pub use laws::moves_are_asked;
 pub use model_world::{EditCommand, Refusal, Request};
 pub use moves::{is_move, move_draft};

@@ -12,3 +12,4 @@ pub mod RunLemmas
 pub mod ShownLemmas
 mod ApartLemmas
 mod SettingLemmas
+mod BegunLemmas

@@ -1,5 +1,5 @@
 -- Lists of JSON values, read one after the other.
-use Rattle.std.proofs.Common.{◌≡◌, ℕ, List, [], ◌∷◌, ◌++◌, map, ◌+◌, ◌<◌, length, drop, get_or, Option, Some, None, option_map, option_and_then, refl, sym, ap, ◌∙◌, append_assoc}
+use Rattle.std.proofs.Common.{◌≡◌, ℕ, Bool, List, [], ◌∷◌, ◌++◌, map, ◌+◌, ◌<◌, length, drop, get_or, Option, Some, None, option_map, option_and_then, refl, sym, ap, ◌∙◌, append_assoc}
 use Rattle.serde_json.specs.Data.{Data, Items}
 use Rattle.serde_json.specs.Find.{as_array}
 use Rattle.serde_json.specs.View.{view, items_of, items_view}
@@ -69,29 +69,29 @@ unread_here so_far read vs i v within is e =
 -- ---- items
 
 -- the items that were read, and those that the rest is read as
-abbrev pub items_on : List PlainItem → List Value → Option (List PlainItem)
-items_on so_far vs = option_map (λ more. so_far ++ more) (option_map one_list (all_read items_in (map view vs)))
+abbrev pub items_on : Bool → List PlainItem → List Value → Option (List PlainItem)
+items_on exact so_far vs = option_map (λ more. so_far ++ more) (option_map one_list (all_read (items_in exact) (map view vs)))
 
-items_step : (so_far new : List PlainItem) (v : Value) (vs : List Value) (o : Option (List PlainItem)) → option_map (λ more. so_far ++ more) o ≡ Some new →
-    option_map (λ more. so_far ++ more) (option_map one_list (option_and_then (λ x. option_map (λ xs. x ∷ xs) (all_read items_in (map view vs))) o)) ≡ items_on new vs
-items_step so_far new v vs None e = cc e
-items_step so_far new v vs (Some more) e = by (all_read items_in (map view vs)) where
+items_step : (exact : Bool) (so_far new : List PlainItem) (v : Value) (vs : List Value) (o : Option (List PlainItem)) → option_map (λ more. so_far ++ more) o ≡ Some new →
+    option_map (λ more. so_far ++ more) (option_map one_list (option_and_then (λ x. option_map (λ xs. x ∷ xs) (all_read (items_in exact) (map view vs))) o)) ≡ items_on exact new vs
+items_step exact so_far new v vs None e = cc e
+items_step exact so_far new v vs (Some more) e = by (all_read (items_in exact) (map view vs)) where
   by : (rest : Option (List (List PlainItem))) → option_map (λ l. so_far ++ l) (option_map one_list (option_map (λ xs. more ∷ xs) rest)) ≡ option_map (λ l. new ++ l) (option_map one_list rest)
   by None = refl
   by (Some xs) = ap (λ l. Some l) (sym (append_assoc so_far more (one_list xs)) ∙ ap (λ l. l ++ one_list xs) (cc e))
 
-pub items_next : (so_far new : List PlainItem) (vs : List Value) (i : ℕ) (v : Value) → i < length vs → v ≡ get_or vs i v →
-    option_map (λ more. so_far ++ more) (items_in (view v)) ≡ Some new → items_on new (drop (i + 1) vs) ≡ items_on so_far (drop i vs)
-items_next so_far new vs i v within is e =
-    sym (items_step so_far new v (drop (i + 1) vs) (items_in (view v)) e)
-    ∙ ap (λ w. items_on so_far (w ∷ drop (i + 1) vs)) is ∙ sym (at_drop_more (items_on so_far) vs i v within)
+pub items_next : (exact : Bool) (so_far new : List PlainItem) (vs : List Value) (i : ℕ) (v : Value) → i < length vs → v ≡ get_or vs i v →
+    option_map (λ more. so_far ++ more) (items_in exact (view v)) ≡ Some new → items_on exact new (drop (i + 1) vs) ≡ items_on exact so_far (drop i vs)
+items_next exact so_far new vs i v within is e =
+    sym (items_step exact so_far new v (drop (i + 1) vs) (items_in exact (view v)) e)
+    ∙ ap (λ w. items_on exact so_far (w ∷ drop (i + 1) vs)) is ∙ sym (at_drop_more (items_on exact so_far) vs i v within)
 
-items_stop : (so_far : List PlainItem) (vs : List Value) (o : Option (List PlainItem)) → o ≡ None →
-    option_map (λ more. so_far ++ more) (option_map one_list (option_and_then (λ x. option_map (λ xs. x ∷ xs) (all_read items_in (map view vs))) o)) ≡ None
-items_stop so_far vs None e = refl
-items_stop so_far vs (Some more) e = cc e
+items_stop : (exact : Bool) (so_far : List PlainItem) (vs : List Value) (o : Option (List PlainItem)) → o ≡ None →
+    option_map (λ more. so_far ++ more) (option_map one_list (option_and_then (λ x. option_map (λ xs. x ∷ xs) (all_read (items_in exact) (map view vs))) o)) ≡ None
+items_stop exact so_far vs None e = refl
+items_stop exact so_far vs (Some more) e = cc e
 
-pub no_items_here : (so_far : List PlainItem) (vs : List Value) (i : ℕ) (v : Value) → i < length vs → v ≡ get_or vs i v →
-    items_in (view v) ≡ None → items_on so_far (drop i vs) ≡ None
-no_items_here so_far vs i v within is e =
-    at_drop_more (items_on so_far) vs i v within ∙ ap (λ w. items_on so_far (w ∷ drop (i + 1) vs)) (sym is) ∙ items_stop so_far (drop (i + 1) vs) (items_in (view v)) e
+pub no_items_here : (exact : Bool) (so_far : List PlainItem) (vs : List Value) (i : ℕ) (v : Value) → i < length vs → v ≡ get_or vs i v →
+    items_in exact (view v) ≡ None → items_on exact so_far (drop i vs) ≡ None
+no_items_here exact so_far vs i v within is e =
+    at_drop_more (items_on exact so_far) vs i v within ∙ ap (λ w. items_on exact so_far (w ∷ drop (i + 1) vs)) (sym is) ∙ items_stop exact so_far (drop (i + 1) vs) (items_in exact (view v)) e

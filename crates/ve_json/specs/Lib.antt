@@ -11,3 +11,5 @@ pub mod ReplyMembers
 pub mod Runs
 pub mod Answers
 pub mod Settings
+pub mod Begun
+pub mod Provenances

@@ -10,6 +10,7 @@ ghost use Rattle.model_world.specs.Values as values;
 ghost use Rattle.ve_json.specs.Gives.{Reads};
 
 use crate::fault::ValueFault;
+use crate::held::is_held;
 use crate::values::{member, pair_in, text_in, values_in};
 use model_edit::{Kinds, Shape, Shapes};
 use serde_json::{Map, Value};
@@ -116,12 +117,24 @@ fn are_free(attrs: &[Attr]) -> bool
     true
 }
 
-/// A list of attributes with distinct names, none of them `about` or `typeof`.
-pub fn free_attrs_in(alloc: Global, json: &Value) -> Result<Attrs, ValueFault>
-    ensures { Reads result (attributes.free_attrs_in (view json.now)) }
+/// Whether an item may have these attributes: where it stands for one that was shown, no name is
+/// barred, but none may say that an element is kept whole.
+fn are_allowed(exact: bool, attrs: &[Attr]) -> bool
+    ensures { result ≡ attributes.are_allowed exact attrs.now }
+{
+    if exact {
+        !is_held(attrs)
+    } else {
+        are_free(attrs)
+    }
+}
+
+/// A list of attributes with distinct names that an item may have.
+pub fn allowed_attrs_in(alloc: Global, exact: bool, json: &Value) -> Result<Attrs, ValueFault>
+    ensures { Reads result (attributes.allowed_attrs_in exact (view json.now)) }
 {
     let attrs = attrs_in(alloc, json)?;
-    if !are_free(attrs.as_slice()) {
+    if !are_allowed(exact, attrs.as_slice()) {
         return Err(ValueFault::IllFormed);
     }
     Ok(attrs)
@@ -135,26 +148,26 @@ fn is_tag_of_marks(tag: &Text) -> bool
 }
 
 /// `[tag, attributes]`.
-fn mark_in(alloc: Global, json: &Value) -> Result<Mark, ValueFault>
-    ensures { Reads result (attributes.mark_in (view json.now)) }
+fn mark_in(alloc: Global, exact: bool, json: &Value) -> Result<Mark, ValueFault>
+    ensures { Reads result (attributes.mark_in exact (view json.now)) }
 {
     let (tag, attrs) = pair_in(json).ok_or(ValueFault::IllFormed)?;
     let tag = text_in(alloc, tag)?;
     let attrs = attrs_in(alloc, attrs)?;
-    if !is_tag_of_marks(&tag) || !are_free(attrs.as_slice()) {
+    if !is_tag_of_marks(&tag) || !are_allowed(exact, attrs.as_slice()) {
         return Err(ValueFault::IllFormed);
     }
     Ok(Mark { tag, attrs })
 }
 
 /// The marks of an item: no more than 64.
-pub fn marks_in(alloc: Global, json: &Value) -> Result<Marks, ValueFault>
-    ensures { Reads result (attributes.marks_in (view json.now)) }
+pub fn marks_in(alloc: Global, exact: bool, json: &Value) -> Result<Marks, ValueFault>
+    ensures { Reads result (attributes.marks_in exact (view json.now)) }
 {
     let list = values_in(json).ok_or(ValueFault::IllFormed)?;
     let mut marks = Marks::new(alloc);
     for json in list {
-        let mark = mark_in(alloc, json)?;
+        let mark = mark_in(alloc, exact, json)?;
         marks.push(mark)?;
     }
     if marks.as_slice().len() > MAX_MARKS {
@@ -168,6 +181,34 @@ pub fn element_in(json: &Value) -> Option<Kind>
     ensures { result ≡ attributes.element_in (view json.now) }
 {
     kind_of_tag(json.as_str()?)
+}
+
+/// The kind that no tag spells, by its name.
+fn leaf_word(word: &str) -> Option<Kind>
+    ensures { result ≡ values.meant_by attributes.leaf_kinds word.now }
+{
+    match word {
+        "trans_block" => Some(Kind::TransBlock),
+        "alien_block" => Some(Kind::AlienBlock),
+        "ref" => Some(Kind::Ref),
+        "trans_inline" => Some(Kind::TransInline),
+        "alien_inline" => Some(Kind::AlienInline),
+        _ => None,
+    }
+}
+
+/// The kind of an item: where it stands for one that was shown, any but the root, the internal list
+/// and its items.
+pub fn kind_in(exact: bool, json: &Value) -> Option<Kind>
+    ensures { result ≡ attributes.kind_in exact (view json.now) }
+{
+    if !exact {
+        return element_in(json);
+    }
+    if let Some(kind) = json.as_str().and_then(leaf_word) {
+        return Some(kind);
+    }
+    element_in(json)
 }
 
 /// The kind of an element, other than `br` and `img`.
@@ -196,12 +237,18 @@ pub fn kinds_in(alloc: Global, json: &Value) -> Result<Kinds, ValueFault>
 
 /// The attributes among the members of an item or of a node to be put round others; none where they
 /// are absent.
-pub fn attrs_among(alloc: Global, members: &Map<String, Value>) -> Result<Attrs, ValueFault>
-    ensures { Reads result (values.member_or (codes "attrs") [] attributes.free_attrs_in (members_view members.now.entries)) }
+pub fn attrs_among(
+    alloc: Global,
+    exact: bool,
+    members: &Map<String, Value>,
+) -> Result<Attrs, ValueFault>
+    ensures { Reads result (
+        values.member_or (codes "attrs") [] (attributes.allowed_attrs_in exact)
+        (members_view members.now.entries)) }
 {
     match member(members, "attrs") {
         None => Ok(Attrs::new(alloc)),
-        Some(json) => free_attrs_in(alloc, json),
+        Some(json) => allowed_attrs_in(alloc, exact, json),
     }
 }
 
@@ -213,7 +260,7 @@ fn shape_in(alloc: Global, json: &Value) -> Result<Shape, ValueFault>
     let kind = member(members, "kind")
         .and_then(branch_in)
         .ok_or(ValueFault::IllFormed)?;
-    let attrs = attrs_among(alloc, members)?;
+    let attrs = attrs_among(alloc, false, members)?;
     Ok(Shape { kind, attrs })
 }
 

@@ -7,8 +7,8 @@ ghost use Rattle.ve_json.specs.Gives.{Gives, made_of};
 
 use crate::fault::BadMember;
 use crate::members::{
-    attrs, branch, kinds, name, number, number_or, ops, shapes, some_source, some_text, text,
-    text_marks, text_or_null,
+    attrs, branch, kinds, name, number, number_or, ops, shapes, some_source, some_text, switch,
+    text, text_marks, text_or_null,
 };
 use model_edit::WrapPlan;
 use model_world::{EditCommand, Field};
@@ -132,6 +132,7 @@ pub fn attr_members(alloc: Global, members: &Map<String, Value>) -> Result<EditC
 pub fn apply_members(alloc: Global, members: &Map<String, Value>) -> Result<EditCommand, BadMember>
     ensures { Gives result (changes.apply_read (members_view members.now.entries)) }
 {
-    let ops = ops(alloc, members, Field::Ops)?;
+    let exact = switch(members, Field::Exact)?;
+    let ops = ops(alloc, exact, members, Field::Ops)?;
     Ok(EditCommand::Apply { ops })
 }

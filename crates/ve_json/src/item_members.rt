@@ -10,21 +10,17 @@ ghost use Rattle.model_world.specs.Attributes.{marks_in};
 ghost use Rattle.model_world.specs.ItemWords as words;
 ghost use Rattle.ve_json.specs.Gives.{Reads};
 
-use crate::attributes::{attrs_among, element_in, marks_in};
+use crate::attributes::{attrs_among, kind_in, marks_in};
 use crate::fault::ValueFault;
+use crate::held::is_white_char;
+use crate::provenance::{Provenance, provenance_in};
 use crate::values::{member, pair_in, text_in, values_in};
 use model_items::PlainItem;
 use model_world::PlainList;
 use serde_json::{Map, Value};
 use std::alloc::Global;
-use ve_base::{Head, Marks, Memory, Text, TryCopy};
-use ve_kinds::{Kind, is_content_branch, is_inline_leaf, is_leaf};
-
-fn is_white_char(ch: char) -> bool
-    ensures { result ≡ elements.is_white_char ch }
-{
-    ch == '\t' || ch == '\n' || ch == '\u{c}' || ch == ' '
-}
+use ve_base::{Attrs, Head, Marks, Memory, Text, TryCopy};
+use ve_kinds::{Kind, is_content_branch, is_element, is_inline_leaf, is_leaf};
 
 fn has_white_chars(text: &str) -> bool
     ensures { result ≡ elements.is_white (chars text.now) }
@@ -59,13 +55,34 @@ fn white_among(alloc: Global, members: &Map<String, Value>) -> Result<Text, Valu
 }
 
 /// The marks of an opening; none where they are absent.
-fn marks_among(alloc: Global, members: &Map<String, Value>) -> Result<Marks, ValueFault>
-    ensures { Reads result (values.member_or (codes "marks") [] marks_in (members_view members.now.entries)) }
+fn marks_among(
+    alloc: Global,
+    exact: bool,
+    members: &Map<String, Value>,
+) -> Result<Marks, ValueFault>
+    ensures { Reads result (
+        values.member_or (codes "marks") [] (marks_in exact) (members_view members.now.entries)) }
 {
     match member(members, "marks") {
         None => Ok(Marks::new(alloc)),
-        Some(json) => marks_in(alloc, json),
+        Some(json) => marks_in(alloc, exact, json),
     }
+}
+
+/// The attributes of an opening of this kind. Those of a leaf that no tag spells aren't read.
+fn opening_attrs_in(
+    alloc: Global,
+    exact: bool,
+    members: &Map<String, Value>,
+    kind: Kind,
+) -> Result<Attrs, ValueFault>
+    ensures { Reads result (
+        words.opening_attrs_in exact (members_view members.now.entries) kind) }
+{
+    if !is_element(kind) {
+        return Ok(Attrs::new(alloc));
+    }
+    attrs_among(alloc, exact, members)
 }
 
 /// Whether marks, or whitespace before it, may stand with an opening: marks with inline leaves
@@ -83,14 +100,18 @@ fn may_open(kind: Kind, marks: &Marks, pre: &Text) -> bool
 /// An opening with these members, of which the kind was read.
 fn opening_in(
     alloc: Global,
+    exact: bool,
     members: &Map<String, Value>,
     kind: Kind,
 ) -> Result<PlainItem, ValueFault>
-    ensures { Reads result (words.opening_in (members_view members.now.entries) kind) }
+    ensures { Reads result (words.opening_in exact (members_view members.now.entries) kind) }
 {
-    let attrs = attrs_among(alloc, members)?;
-    let marks = marks_among(alloc, members)?;
+    let attrs = opening_attrs_in(alloc, exact, members, kind)?;
+    let marks = marks_among(alloc, exact, members)?;
     let pre = white_among(alloc, members)?;
+    let Provenance { origin, generated } = provenance_in(exact, members, kind).ok_or(
+        ValueFault::IllFormed,
+    )?;
     if !may_open(kind, &marks, &pre) {
         return Err(ValueFault::IllFormed);
     }
@@ -103,8 +124,8 @@ fn opening_in(
         head,
         marks,
         pre,
-        origin: None,
-        generated: false,
+        origin,
+        generated,
     })
 }
 
@@ -131,17 +152,20 @@ fn closing_in(
 }
 
 /// An opening where there is a member `open`, else a closing.
-fn bracket_in(alloc: Global, members: &Map<String, Value>) -> Result<PlainItem, ValueFault>
-    ensures { Reads result (words.bracket_in (members_view members.now.entries)
+fn bracket_in(
+    alloc: Global,
+    exact: bool,
+    members: &Map<String, Value>,
+) -> Result<PlainItem, ValueFault>
+    ensures { Reads result (words.bracket_in exact (members_view members.now.entries)
         (get_member (codes "open") (members_view members.now.entries)) (get_member (codes "close") (members_view members.now.entries))) }
 {
     if let Some(opened) = member(members, "open") {
-        let kind = element_in(opened).ok_or(ValueFault::IllFormed)?;
-        return opening_in(alloc, members, kind);
+        let kind = kind_in(exact, opened).ok_or(ValueFault::IllFormed)?;
+        return opening_in(alloc, exact, members, kind);
     }
-    let kind = member(members, "close")
-        .and_then(element_in)
-        .ok_or(ValueFault::IllFormed)?;
+    let closed = member(members, "close").ok_or(ValueFault::IllFormed)?;
+    let kind = kind_in(exact, closed).ok_or(ValueFault::IllFormed)?;
     closing_in(alloc, members, kind)
 }
 
@@ -157,11 +181,17 @@ fn push_text(alloc: Global, marks: &Marks, text: &str, items: &mut PlainList) ->
 }
 
 /// Appends the items that a value is read as: those of a text, of a text with marks, or a bracket.
-fn push_items(alloc: Global, json: &Value, items: &mut PlainList) -> Result<(), ValueFault>
+fn push_items(
+    alloc: Global,
+    exact: bool,
+    json: &Value,
+    items: &mut PlainList,
+) -> Result<(), ValueFault>
     ensures ok { OnOk result (
-        option_map (λ more. items.old ++ more) (words.items_in (view json.now))
+        option_map (λ more. items.old ++ more) (words.items_in exact (view json.now))
         ≡ Some items.new) }
-    ensures err { IsErrOf result ValueFault.IllFormed → words.items_in (view json.now) ≡ None }
+    ensures err { IsErrOf result ValueFault.IllFormed
+        → words.items_in exact (view json.now) ≡ None }
 {
     match json {
         Value::String(_) => {
@@ -171,23 +201,23 @@ fn push_items(alloc: Global, json: &Value, items: &mut PlainList) -> Result<(), 
         Value::Array(_) => {
             let (text, marks) = pair_in(json).ok_or(ValueFault::IllFormed)?;
             let text = text_in(alloc, text)?;
-            let marks = marks_in(alloc, marks)?;
+            let marks = marks_in(alloc, exact, marks)?;
             push_text(alloc, &marks, text.as_str(), items)?;
         }
-        Value::Object(members) => items.push(bracket_in(alloc, members)?)?,
+        Value::Object(members) => items.push(bracket_in(alloc, exact, members)?)?,
         Value::Null | Value::Bool(_) | Value::Number(_) => return Err(ValueFault::IllFormed),
     }
     Ok(())
 }
 
 /// The items that a list of values is read as.
-pub fn all_items_in(alloc: Global, json: &Value) -> Result<PlainList, ValueFault>
-    ensures { Reads result (words.all_items_in (view json.now)) }
+pub fn all_items_in(alloc: Global, exact: bool, json: &Value) -> Result<PlainList, ValueFault>
+    ensures { Reads result (words.all_items_in exact (view json.now)) }
 {
     let list = values_in(json).ok_or(ValueFault::IllFormed)?;
     let mut items = PlainList::new(alloc);
     for json in list {
-        push_items(alloc, json, &mut items)?;
+        push_items(alloc, exact, json, &mut items)?;
     }
     Ok(items)
 }

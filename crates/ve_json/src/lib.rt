@@ -9,7 +9,7 @@
 //! - `command` reads a line: each command's members, as JSON has them. A well-formed command may
 //!   still be refused by the page or the site. `Gives` in specs/: a reader gives the model's value,
 //!   or for want of memory nothing of it. `CommandWords`: the commands by their words, and the
-//!   readers of each one's members.
+//!   readers of each one's members. `Begun`: how much of `mw:` a word has so far.
 //! - `reply_text` appends a reply to a buffer: words and numbers, and the JSON of texts, items,
 //!   references and cells. Items are borrowed from the page, and serialised in one pass.
 //!   `Spelling`: a text that is being written into a buffer. `Pieces`: characters that stand for
@@ -28,12 +28,14 @@ mod change_members;
 mod changes;
 mod command_words;
 mod fault;
+mod held;
 mod item_members;
 mod item_replies;
 mod json_list;
 mod line;
 mod members;
 mod operations;
+mod provenance;
 mod quoted;
 mod refusals;
 mod reply_words;

@@ -89,7 +89,7 @@ pub fn number_or_none(
     field: Field,
 ) -> Result<Option<usize>, BadMember>
     ensures { Gives result (
-        optional_member field None commands.some_number_in (members_view members.now.entries)) }
+        optional_member field None values.some_number_in (members_view members.now.entries)) }
 {
     match of_field(members, field) {
         None => Ok(None),
@@ -206,16 +206,18 @@ pub fn shapes(
     }
 }
 
-/// The operations of a transaction, in normal form.
+/// The operations of a transaction, in normal form. Where `exact`, their items stand for those that
+/// a reply shows.
 pub fn ops(
     alloc: Global,
+    exact: bool,
     members: &Map<String, Value>,
     field: Field,
 ) -> Result<OpWordList, BadMember>
     ensures { Gives result (
-        required_member field operations.ops_in (members_view members.now.entries)) }
+        required_member field (operations.ops_in exact) (members_view members.now.entries)) }
 {
-    named(field, ops_in(alloc, found(members, field)?))
+    named(field, ops_in(alloc, exact, found(members, field)?))
 }
 
 fn text_marks_in(json: &Value) -> Option<TextMarks>

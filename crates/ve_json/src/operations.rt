@@ -20,15 +20,17 @@ use ve_tx::Names;
 /// `{"remove":n,"insert":items}`, of which `n` was found.
 fn removal_in(
     alloc: Global,
+    exact: bool,
     members: &Map<String, Value>,
     counted: &Value,
 ) -> Result<OpWords, ValueFault>
     ensures { Reads result (
-        operations.removal_in (members_view members.now.entries) (view counted.now)) }
+        operations.removal_in exact (members_view members.now.entries) (view counted.now)) }
 {
     let count = number_in(counted).ok_or(ValueFault::IllFormed)?;
     let insert = all_items_in(
         alloc,
+        exact,
         member(members, "insert").ok_or(ValueFault::IllFormed)?,
     )?;
     Ok(OpWords::Remove { count, insert })
@@ -44,8 +46,8 @@ fn setting_in(alloc: Global, members: &Map<String, Value>) -> Result<OpWords, Va
 }
 
 /// One operation, by the first of `retain`, `remove` and `attr` that is there.
-fn op_in(alloc: Global, json: &Value) -> Result<OpWords, ValueFault>
-    ensures { Reads result (operations.op_in (view json.now)) }
+fn op_in(alloc: Global, exact: bool, json: &Value) -> Result<OpWords, ValueFault>
+    ensures { Reads result (operations.op_in exact (view json.now)) }
 {
     let members = json.as_object().ok_or(ValueFault::IllFormed)?;
     if let Some(retained) = member(members, "retain") {
@@ -53,7 +55,7 @@ fn op_in(alloc: Global, json: &Value) -> Result<OpWords, ValueFault>
         return Ok(OpWords::Retain(count));
     }
     match member(members, "remove") {
-        Some(counted) => removal_in(alloc, members, counted),
+        Some(counted) => removal_in(alloc, exact, members, counted),
         None => setting_in(alloc, members),
     }
 }
@@ -130,14 +132,14 @@ fn are_normal(alloc: Global, ops: &[OpWords]) -> Result<bool, Memory>
     Ok(true)
 }
 
-/// Operations in normal form.
-pub fn ops_in(alloc: Global, json: &Value) -> Result<OpWordList, ValueFault>
-    ensures { Reads result (operations.ops_in (view json.now)) }
+/// Operations in normal form. Where `exact`, their items stand for those that a reply shows.
+pub fn ops_in(alloc: Global, exact: bool, json: &Value) -> Result<OpWordList, ValueFault>
+    ensures { Reads result (operations.ops_in exact (view json.now)) }
 {
     let list = values_in(json).ok_or(ValueFault::IllFormed)?;
     let mut ops = OpWordList::new(alloc);
     for json in list {
-        let op = op_in(alloc, json)?;
+        let op = op_in(alloc, exact, json)?;
         ops.push(op)?;
     }
     let normal = are_normal(alloc, ops.as_slice())?;

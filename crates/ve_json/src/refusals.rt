@@ -101,6 +101,7 @@ pub fn refusal_words(refusal: Refusal) -> Words
         Refusal::NotBranch { at } => one("not_branch", at),
         Refusal::NotOpening { at } => one("not_opening", at),
         Refusal::BadAttr { at } => one("bad_attr", at),
+        Refusal::BadOrigin { origin } => one("bad_origin", origin),
         Refusal::BadLength { has, needs } => two("bad_length", has, needs),
         Refusal::Unlawful { at } => one("unlawful", at),
         Refusal::NothingToUndo => bare("nothing_to_undo"),
@@ -121,6 +122,7 @@ pub fn refusal_words(refusal: Refusal) -> Words
         Refusal::NoSibling { at } => one("no_sibling", at),
         Refusal::NotNested { at } => one("not_nested", at),
         Refusal::BadEntry { entry, seen } => two("bad_entry", entry, seen),
+        Refusal::TakenBack { entry, by } => two("taken_back", entry, by),
         Refusal::RevokeConflict { later, reversal } => four("revoke_conflict", later, reversal),
     }
 }

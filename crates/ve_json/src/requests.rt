@@ -81,7 +81,8 @@ fn revoke_members(members: &Map<String, Value>) -> Result<Request, BadMember>
     ensures { Gives result (commands.revoke_read (members_view members.now.entries)) }
 {
     let entry = number(members, Field::Entry)?;
-    Ok(Request::Revoke { entry })
+    let live = switch(members, Field::Live)?;
+    Ok(Request::Revoke { entry, live })
 }
 
 /// The members of a command that has a position alone.

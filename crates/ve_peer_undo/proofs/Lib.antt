@@ -7,3 +7,5 @@ mod EffectLemmas
 mod CountedLemmas
 mod PositionLemmas
 mod TakenOutLemmas
+mod PassedLemmas
+mod WalkLemmas

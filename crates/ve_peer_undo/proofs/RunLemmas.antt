@@ -12,7 +12,7 @@ use Rattle.model_change.proofs.ReversalLaw.{reversal_undoes}
 use Rattle.ve_rebase.specs.Lists.{RunOnLength}
 use Rattle.ve_peer_undo.specs.Laws.{EarlierDoNotMatter, RevokesRun}
 
-runs_on : (ts : List Transaction) (items : List PlainItem) → AllRun ts items → RunOnLength (length items) ts
+pub runs_on : (ts : List Transaction) (items : List PlainItem) → AllRun ts items → RunOnLength (length items) ts
 runs_on [] items run = tt
 runs_on (t ∷ ts) items run =
     ((parts_of_Applies t items run.0.applies).0, subst (λ n. RunOnLength n ts) (gives_new_length t items run.0.applies) (runs_on ts (edited t items) run.1))

@@ -2,12 +2,10 @@
 use Rattle.std.specs.Prelude.{◌≡◌, ℕ, suc, Bool, true, false, ◌==◌, if◌then◌else◌, List, [], ◌∷◌, ◌++◌, length, All, Option, Some, None, option_map}
 use Rattle.model_change.specs.Replay.{reversal}
 use Rattle.model_change.specs.Transaction.{Transaction}
-use Rattle.model_site.specs.Live.{Hinted, Standing, all_standing, is_back, left_without, stand, without}
+use Rattle.model_site.specs.Live.{Standing, all_standing, left_without, without_hint}
 use Rattle.ve_tx.specs.declared.parcel.Parcel.{Parcel}
 use Rattle.ve_tx.specs.ByValue.{parcel_by_value, ParcelCites}
 use Rattle.ve_rebase.specs.Lists.{RunFromOneLength}
-use Rattle.ve_peer_undo.specs.declared.fault.LiveFault.{LiveFault}
-use Rattle.ve_peer_undo.specs.declared.fault.LiveFault.TheVariants as live
 
 -- parcels with their numbers beside them
 abbrev pub counted : List ℕ → List Parcel → List Standing
@@ -34,17 +32,12 @@ abbrev pub EachMayLeave : List Standing → Type 0
 EachMayLeave standing = (before after : List Standing) (s : Standing) → standing ≡ before ++ s ∷ after →
     RunFromOneLength (all_standing after) (reversal s.txs)
 
-abbrev pub IsTakenOut : (m : ℕ) (back : List Transaction) (old new : List Standing) → Bool → Type 0
-IsTakenOut m back old new true = without m back old ≡ Some new
-IsTakenOut m back old new false = (without m back old ≡ None) × (new ≡ old)
+-- whether the entry of the hint was taken out, if there is one
+abbrev pub IsTakenOut : (hint : Option ℕ) (back : List Transaction) (old new : List Standing) → Bool → Type 0
+IsTakenOut hint back old new true = without_hint hint back old ≡ Some new
+IsTakenOut hint back old new false = (without_hint hint back old ≡ None) × (new ≡ old)
 
 -- the entries that are kept and their numbers are as many, and each cites its own values
 pub record AreKept (ns : List ℕ) (ps : List Parcel) : Type 0 where
   pub many : length ns ≡ length ps
   pub cite : All ParcelCites ps
-
--- why an entry stops the walk: it takes the first one back
-abbrev pub IsStopped : (i : ℕ) (own : List Transaction) (n : ℕ) → Hinted → List Standing → LiveFault → Type 0
-IsStopped i own n e standing (live.TakenBack by) = (by ≡ n) × (is_back i own e standing ≡ true)
-IsStopped i own n e standing (live.Conflict later reversal) = ⊥
-IsStopped i own n e standing live.Memory = Unit {0}

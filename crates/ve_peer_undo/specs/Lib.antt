@@ -7,3 +7,4 @@ pub mod Laws
 pub mod Counting
 pub mod Alike
 pub mod Counted
+pub mod Walked

@@ -5,13 +5,14 @@ ghost use Rattle.model_site.specs.Live.{all_standing, is_back, live_from, stand}
 ghost use Rattle.ve_tx.specs.ByValue.{parcel_by_value, ParcelCites};
 ghost use Rattle.ve_rebase.specs.Entries.{parcels_by_value};
 ghost use Rattle.ve_rebase.specs.Lists.{RunFromOneLength};
-ghost use Rattle.ve_peer_undo.specs.Counted.{AreKept, counted, EachMayLeave, IsLeft, IsStopped, IsTakenOut, position_of};
+ghost use Rattle.ve_peer_undo.specs.Counted.{AreKept, counted, EachMayLeave, IsLeft, IsTakenOut, position_of};
 ghost use Rattle.ve_peer_undo.specs.Counting.{hinted_parcel, revoke_first, RunFromPage};
 ghost use Rattle.ve_peer_undo.specs.Refusal.{IsLiveRefusal};
+ghost use Rattle.ve_peer_undo.specs.Walked.{AreCounted, IsCounted};
 
+use crate::LiveFault;
 use crate::alike::have_one_effect;
 use crate::undo::{inverse_of, over_later};
-use crate::LiveFault;
 use std::alloc::Global;
 use std::mem::replace;
 use ve_base::{Memory, TryCopy};
@@ -69,8 +70,10 @@ fn take_out(
     requires kept { AreKept numbers.old.items parcels.old }
     requires back { ParcelCites back.now }
     requires run { EachMayLeave (counted numbers.old.items parcels.old) }
+    ensures same { IfOk result (λ taken. taken ≡ false →
+        (numbers.new.items ≡ numbers.old.items) × (parcels.new ≡ parcels.old)) }
     ensures taken { IfOk result (
-        IsTakenOut number (parcel_by_value back.now)
+        IsTakenOut (Some number) (parcel_by_value back.now)
         (counted numbers.old.items parcels.old) (counted numbers.new.items parcels.new)) }
     ensures kept { OnOk result (AreKept numbers.new.items parcels.new) }
 {
@@ -90,6 +93,29 @@ fn take_out(
     Ok(true)
 }
 
+/// Takes out what an entry takes back, if it takes one back that counts.
+fn take_back(
+    alloc: Global,
+    numbers: &mut Vec<usize>,
+    parcels: &mut ParcelList,
+    entry: &Parcel,
+) -> Result<bool, Memory>
+    requires kept { AreKept numbers.old.items parcels.old }
+    requires entry { ParcelCites entry.now }
+    requires run { EachMayLeave (counted numbers.old.items parcels.old) }
+    ensures taken { IfOk result (
+        IsTakenOut entry.now.entry.takes_back (parcel_by_value entry.now)
+        (counted numbers.old.items parcels.old) (counted numbers.new.items parcels.new)) }
+    ensures kept { OnOk result (AreKept numbers.new.items parcels.new) }
+    ensures same { IfOk result (λ taken. taken ≡ false →
+        (numbers.new.items ≡ numbers.old.items) × (parcels.new ≡ parcels.old)) }
+{
+    let Some(taken) = entry.entry.takes_back else {
+        return Ok(false);
+    };
+    take_out(alloc, numbers, parcels, taken, entry)
+}
+
 /// Goes past one more entry: it takes one of those back that count, or counts itself.
 fn pass(
     alloc: Global,
@@ -106,10 +132,8 @@ fn pass(
         ≡ stand number (hinted_parcel entry.now) (counted numbers.old.items parcels.old)) }
     ensures kept { OnOk result (AreKept numbers.new.items parcels.new) }
 {
-    if let Some(taken) = entry.entry.takes_back {
-        if take_out(alloc, numbers, parcels, taken, entry)? {
-            return Ok(());
-        }
+    if take_back(alloc, numbers, parcels, entry)? {
+        return Ok(());
     }
     numbers.push(number)?;
     parcels.push(entry.copy(alloc)?)?;
@@ -140,6 +164,40 @@ fn takes_first(
     Ok(left_without(alloc, parcels, own, entry)?.is_some())
 }
 
+/// The entries that count behind the first, as they run after it, and their numbers.
+fn counting(
+    alloc: Global,
+    number: usize,
+    entries: &[Parcel],
+) -> Result<(Vec<usize>, ParcelList), LiveFault>
+    requires some { 0 < length entries.now }
+    requires cite { All ParcelCites entries.now }
+    requires run { RunFromPage (map parcel_by_value entries.now) }
+    ensures ok { IfOk result (λ two. AreCounted number entries.now two.0.items two.1) }
+    ensures refused { IfErr result (IsCounted number entries.now) }
+{
+    let mut numbers = Vec::new(alloc);
+    let mut parcels = ParcelList::new(alloc);
+    for k in 1..entries.len() {
+        let Some(next) = number.checked_add(k) else {
+            return Err(LiveFault::Memory);
+        };
+        let entry = &entries[k];
+        if takes_first(
+            alloc,
+            number,
+            &entries[0],
+            entry,
+            numbers.as_slice(),
+            &parcels,
+        )? {
+            return Err(LiveFault::TakenBack { by: next });
+        }
+        pass(alloc, &mut numbers, &mut parcels, next, entry)?;
+    }
+    Ok((numbers, parcels))
+}
+
 /// The parcel that takes the first of these entries back, which has that number, under those behind
 /// it that still count: what took each other back leaves nothing. It runs on the list that all
 /// entries make, and names the entry that it takes back.
@@ -157,5 +215,9 @@ pub fn live_reversal(alloc: Global, number: usize, entries: &[Parcel]) -> Result
     ensures refused { IfErr result (
         IsLiveRefusal (revoke_first number (map hinted_parcel entries.now))) }
 {
-    Err(LiveFault::Memory)
+    let (_numbers, parcels) = counting(alloc, number, entries)?;
+    let back = inverse_of(alloc, &entries[0])?;
+    let mut made = over_later(alloc, parcels.as_slice(), &back)?;
+    made.entry.takes_back = Some(number);
+    Ok(made)
 }

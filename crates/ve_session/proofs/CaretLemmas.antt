@@ -12,16 +12,16 @@ use Rattle.model_site.specs.Site.{Site, with_entry, with_selection}
 use Rattle.model_world.specs.declared.command.Request.{Request}
 use Rattle.model_world.specs.declared.command.Request.TheVariants as request
 use Rattle.model_world.specs.declared.reply.Reply.TheVariants as reply
-use Rattle.model_world.specs.Answers.{after_text, request_outcome, batch_or_no, moved_or_no, next_place, selection_outcome, typed_or_no, typing}
+use Rattle.model_world.specs.Answers.{after_text, batch_or_no, moved_or_no, next_place, selection_outcome, typed_or_no, typing}
 use Rattle.model_world.specs.Edits.{batch_on}
 use Rattle.ve_json.specs.declared.answer.Answer.TheVariants as answer
-use Rattle.ve_session.specs.Asked.{asker, kept_or_new, IsAnswered}
+use Rattle.ve_session.specs.Asked.{asker, kept_or_new, outcome_completed, IsAnswered}
 use Rattle.ve_session.proofs.TurnLemmas.{member_put, put_again, site_put}
 use Rattle.ve_sites.specs.Shared.{Shared, member_at, site_at, sites, with_member_at, with_site_at}
 
 -- a selection is set, and told
 pub is_selected : (r : Request) (k : ℕ) (old new : Shared) (s : Selection) →
-    ((page : Opened) → request_outcome (asker page old k) r ≡ selection_outcome (asker page old k) s) →
+    ((page : Opened) → outcome_completed (asker page old k) r ≡ selection_outcome (asker page old k) s) →
     new ≡ with_site_at k (with_selection s (site_at old k)) old → IsAnswered r k old (answer.Caret s.anchor s.focus) new
 is_selected r k old new s asks same = record {
   replies = λ page. ap (kept_or_new old.session) (asks page) ∙ ap (λ (x : Shared). (reply.Caret s.anchor s.focus, x.session)) (sym same);
@@ -33,7 +33,7 @@ is_selected r k old new s asks same = record {
 -- the focus moves to its next position
 pub moves : (k : ℕ) (old : Shared) (dir : Dir) (by : By) (keep : Bool) (at : ℕ) →
     next_place (site_at old k).replica.items (site_at old k).replica.selection.focus dir by ≡ Ok at → (page : Opened) →
-    request_outcome (asker page old k) (request.Move dir by keep)
+    outcome_completed (asker page old k) (request.Move dir by keep)
     ≡ selection_outcome (asker page old k) (between (if keep then (site_at old k).replica.selection.anchor else at) at)
 moves k old dir by keep at e page = ap (moved_or_no (asker page old k) keep) e
 
@@ -47,7 +47,7 @@ site_put_again k s t old within =
 
 module _ (k : ℕ) (old new : Shared) (ts : List Transaction) (within : k < sites old) where
   pub is_batched : (r : Request) (count : ℕ) →
-      ((page : Opened) → request_outcome (asker page old k) r ≡ batch_or_no (asker page old k) (Ok ts)) →
+      ((page : Opened) → outcome_completed (asker page old k) r ≡ batch_or_no (asker page old k) (Ok ts)) →
       new ≡ with_site_at k (with_entry ts (site_at old k)) old → count ≡ length (site_at new k).replica.items →
       IsAnswered r k old (answer.Length count) new
   is_batched r count asks same counted = record {

@@ -1,22 +1,22 @@
 -- What the layers below count is no more than a line may take.
-use Rattle.std.proofs.Common.{◌≡◌, ◌≤◌, ◌+◌, ◌*◌, ℕ, true, List, [], ◌∷◌, length, ap, sym, subst, arith, le-leb}
+use Rattle.std.proofs.Common.{◌≡◌, ◌≤◌, ◌+◌, ◌*◌, ℕ, Bool, true, List, [], ◌∷◌, length, ap, sym, subst, arith, le-leb}
 use Rattle.std.specs.Prelude.{nat_le, nat_lt, if◌then◌else◌, None, Result, Ok, Err}
 use Rattle.model_change.specs.Transaction.{Transaction}
 use Rattle.model_items.specs.declared.plain_item.PlainItem.{PlainItem}
 use Rattle.model_page.specs.PageItems.{Opened}
-use Rattle.model_site.specs.Entries.{Parcel}
 use Rattle.model_site.specs.Made.{redoing, revoking, undoing}
 use Rattle.model_site.specs.Refused.{edit_cause}
 use Rattle.model_site.specs.Replica.{Replica}
-use Rattle.model_site.specs.Session.{Member}
+use Rattle.model_site.specs.Session.{Member, Session}
 use Rattle.model_world.specs.declared.command.Request.TheVariants as request
 use Rattle.model_world.specs.declared.edit_command.EditCommand.{EditCommand}
 use Rattle.model_world.specs.declared.refusal.Refusal.{Refusal}
 use Rattle.model_world.specs.Edits.{checked_transaction, unless_faulty}
 use Rattle.model_change.specs.Cost.{cost_of_transactions}
 use Rattle.model_items.specs.Cost.{cost_of_tree}
-use Rattle.model_world.specs.Cost.{cost_of_made, cost_of_opening, cost_of_request, made_in_turn, made_of, revoking_seen}
+use Rattle.model_world.specs.Cost.{cost_of_made, cost_of_opening, made_in_turn, made_of, revoking_seen}
 use Rattle.ve_editor.specs.Counted.{steps_over}
+use Rattle.ve_session.specs.Asked.{cost_completed}
 
 -- ---- trees and transactions
 
@@ -68,16 +68,16 @@ opening_within sites opens page old new is h =
 
 -- ---- entries taken back and made again
 
-pub undo_within : (committed : List Parcel) (m : Member) → steps_over (undoing m.site.unsent) m.site.replica.items ≤ cost_of_request committed m request.Undo
-undo_within committed m = over_within (undoing m.site.unsent) m.site.replica.items
+pub undo_within : (w : Session) (m : Member) → steps_over (undoing m.site.unsent) m.site.replica.items ≤ cost_completed w m request.Undo
+undo_within w m = over_within (undoing m.site.unsent) m.site.replica.items
 
-pub redo_within : (committed : List Parcel) (m : Member) → steps_over (redoing m.site.undone) m.site.replica.items ≤ cost_of_request committed m request.Redo
-redo_within committed m = over_within (redoing m.site.undone) m.site.replica.items
+pub redo_within : (w : Session) (m : Member) → steps_over (redoing m.site.undone) m.site.replica.items ≤ cost_completed w m request.Redo
+redo_within w m = over_within (redoing m.site.undone) m.site.replica.items
 
-pub revoke_within : (committed : List Parcel) (m : Member) (i : ℕ) → nat_lt i m.site.seen ≡ true →
-    steps_over (revoking committed i m.site) m.site.replica.items ≤ cost_of_request committed m (request.Revoke i)
-revoke_within committed m i seen =
+pub revoke_within : (w : Session) (m : Member) (i : ℕ) (live : Bool) → nat_lt i m.site.seen ≡ true →
+    steps_over (revoking w.committed w.hints live i m.site) m.site.replica.items ≤ cost_completed w m (request.Revoke i live)
+revoke_within w m i live seen =
     let s = m.site in
-    let made : revoking_seen committed i s ≡ revoking committed i s = ap (λ b. if b then revoking committed i s else []) seen in
-    subst (λ ts. steps_over (revoking committed i s) s.replica.items ≤ cost_of_made (nat_le 2 (length ts)) ts s.replica.items) (sym made)
-    (over_within (revoking committed i s) s.replica.items)
+    let ts = revoking w.committed w.hints live i s in
+    let made : revoking_seen w i live s ≡ ts = ap (λ b. if b then ts else []) seen in
+    subst (λ made. steps_over ts s.replica.items ≤ cost_of_made (nat_le 2 (length made)) made s.replica.items) (sym made) (over_within ts s.replica.items)

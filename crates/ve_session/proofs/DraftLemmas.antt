@@ -8,17 +8,16 @@ use Rattle.model_edit.specs.declared.selection.By.{By}
 use Rattle.model_edit.specs.declared.selection.Dir.{Dir}
 use Rattle.model_items.specs.declared.plain_item.PlainItem.{PlainItem}
 use Rattle.model_page.specs.PageItems.{Opened}
-use Rattle.model_site.specs.Entries.{Parcel}
-use Rattle.model_site.specs.Session.{Member}
+use Rattle.model_site.specs.Session.{Member, Session}
 use Rattle.model_site_law.specs.Sound.{Sound}
 use Rattle.model_world.specs.declared.edit_command.EditCommand.TheVariants as change
 use Rattle.model_world.specs.declared.command.Request.{Request}
 use Rattle.model_world.specs.declared.command.Request.TheVariants as request
 use Rattle.model_world.specs.declared.refusal.Refusal.{Refusal}
-use Rattle.model_world.specs.Answers.{request_outcome, erased_or_no, higher, lower, performed_or_no, to_erase}
+use Rattle.model_world.specs.Answers.{Asked, request_outcome, erased_or_no, higher, lower, performed_or_no, to_erase}
 use Rattle.model_world.specs.Edits.{checked_transaction, change_of}
 use Rattle.model_world.specs.Refusals.{refused_as}
-use Rattle.model_world.specs.Cost.{cost_of_made, cost_of_request, erasing}
+use Rattle.model_world.specs.Cost.{cost_of_made, erasing}
 use Rattle.model_world_law.specs.Fit.{Fit, MovesFit}
 use Rattle.ve_changes.specs.declared.faults.ChangeStop.{ChangeStop}
 use Rattle.ve_changes.specs.Carets.{range_to_erase}
@@ -26,7 +25,7 @@ use Rattle.ve_changes.specs.Drafts.{IsDrafted}
 use Rattle.ve_changes.specs.Moves.{is_move, moved_by}
 use Rattle.ve_changes.specs.Stops.{IsRefused}
 use Rattle.ve_tx.specs.declared.draft.Draft.{Draft}
-use Rattle.ve_session.specs.Asked.{asker, IsStopped}
+use Rattle.ve_session.specs.Asked.{asker, cost_completed, outcome_completed, IsStopped}
 use Rattle.ve_session.proofs.CostLemmas.{cost_in_place}
 use Rattle.ve_session.proofs.TurnLemmas.{unmeant}
 use Rattle.ve_sites.specs.Shared.{Shared, member_at, site_at}
@@ -79,37 +78,67 @@ move_fits laws items (request.Move dir by keep) t is sound e = cc
 move_fits laws items (request.TypeText text) t is sound e = cc
 move_fits laws items (request.Erase dir by) t is sound e = cc
 move_fits laws items (request.Grid at) t is sound e = cc
-move_fits laws items (request.Revoke entry) t is sound e = cc
+move_fits laws items (request.Revoke entry live) t is sound e = cc
 
-pub move_costs : (r : Request) (committed : List Parcel) (m : Member) → is_move r ≡ true →
-    cost_of_request committed m r ≡ cost_in_place (checked_transaction m.site.replica (moved_by m.site.replica.items r)) m.site.replica.items
-move_costs (request.RowIn at row) committed m is = refl
-move_costs (request.RowOut at row) committed m is = refl
-move_costs (request.ColIn at column) committed m is = refl
-move_costs (request.ColOut at column) committed m is = refl
-move_costs (request.Indent at) committed m is = refl
-move_costs (request.Outdent at) committed m is = refl
-move_costs request.Html committed m is = cc
-move_costs request.Tree committed m is = cc
-move_costs request.Refs committed m is = cc
-move_costs request.Caret committed m is = cc
-move_costs request.Undo committed m is = cc
-move_costs request.Redo committed m is = cc
-move_costs request.Send committed m is = cc
-move_costs request.Serve committed m is = cc
-move_costs request.Take committed m is = cc
-move_costs request.Tell committed m is = cc
-move_costs (request.ShowItems from to) committed m is = cc
-move_costs (request.At at) committed m is = cc
-move_costs (request.Near at dir) committed m is = cc
-move_costs (request.Edit change) committed m is = cc
-move_costs (request.Batch cmds) committed m is = cc
-move_costs (request.Select anchor focus) committed m is = cc
-move_costs (request.Move dir by keep) committed m is = cc
-move_costs (request.TypeText text) committed m is = cc
-move_costs (request.Erase dir by) committed m is = cc
-move_costs (request.Grid at) committed m is = cc
-move_costs (request.Revoke entry) committed m is = cc
+pub move_costs : (r : Request) (w : Session) (m : Member) → is_move r ≡ true →
+    cost_completed w m r ≡ cost_in_place (checked_transaction m.site.replica (moved_by m.site.replica.items r)) m.site.replica.items
+move_costs (request.RowIn at row) w m is = refl
+move_costs (request.RowOut at row) w m is = refl
+move_costs (request.ColIn at column) w m is = refl
+move_costs (request.ColOut at column) w m is = refl
+move_costs (request.Indent at) w m is = refl
+move_costs (request.Outdent at) w m is = refl
+move_costs request.Html w m is = cc
+move_costs request.Tree w m is = cc
+move_costs request.Refs w m is = cc
+move_costs request.Caret w m is = cc
+move_costs request.Undo w m is = cc
+move_costs request.Redo w m is = cc
+move_costs request.Send w m is = cc
+move_costs request.Serve w m is = cc
+move_costs request.Take w m is = cc
+move_costs request.Tell w m is = cc
+move_costs (request.ShowItems from to) w m is = cc
+move_costs (request.At at) w m is = cc
+move_costs (request.Near at dir) w m is = cc
+move_costs (request.Edit change) w m is = cc
+move_costs (request.Batch cmds) w m is = cc
+move_costs (request.Select anchor focus) w m is = cc
+move_costs (request.Move dir by keep) w m is = cc
+move_costs (request.TypeText text) w m is = cc
+move_costs (request.Erase dir by) w m is = cc
+move_costs (request.Grid at) w m is = cc
+move_costs (request.Revoke entry live) w m is = cc
+
+-- what is moved takes nothing from the page as it was first read
+pub move_same : (a : Asked) (r : Request) → is_move r ≡ true → outcome_completed a r ≡ request_outcome a r
+move_same a (request.RowIn at row) is = refl
+move_same a (request.RowOut at row) is = refl
+move_same a (request.ColIn at column) is = refl
+move_same a (request.ColOut at column) is = refl
+move_same a (request.Indent at) is = refl
+move_same a (request.Outdent at) is = refl
+move_same a request.Html is = refl
+move_same a request.Tree is = refl
+move_same a request.Refs is = refl
+move_same a request.Caret is = refl
+move_same a request.Undo is = refl
+move_same a request.Redo is = refl
+move_same a request.Send is = refl
+move_same a request.Serve is = refl
+move_same a request.Take is = refl
+move_same a request.Tell is = refl
+move_same a (request.ShowItems from to) is = refl
+move_same a (request.At at) is = refl
+move_same a (request.Near at dir) is = refl
+move_same a (request.Edit change) is = cc
+move_same a (request.Batch cmds) is = cc
+move_same a (request.Select anchor focus) is = refl
+move_same a (request.Move dir by keep) is = refl
+move_same a (request.TypeText text) is = refl
+move_same a (request.Erase dir by) is = refl
+move_same a (request.Grid at) is = refl
+move_same a (request.Revoke entry live) is = refl
 
 -- ---- what is erased
 
@@ -125,14 +154,14 @@ module _ (k : ℕ) (old : Shared) (dir : Dir) (by : By) (s : Selection) (e : to_
   same_change : change.Remove (lower s) (higher s) ≡ change.Remove from to
   same_change = ap (λ n. change.Remove n (higher s)) (sym first) ∙ ap (λ n. change.Remove from n) (sym last)
 
-  pub erases : (page : Opened) → request_outcome (asker page old k) (request.Erase dir by)
+  pub erases : (page : Opened) → outcome_completed (asker page old k) (request.Erase dir by)
       ≡ performed_or_no (asker page old k) (checked_transaction (site_at old k).replica (change_of (site_at old k).replica.items (change.Remove from to)))
   erases page =
       ap (erased_or_no (asker page old k)) e
       ∙ ap (λ c. performed_or_no (asker page old k) (checked_transaction (site_at old k).replica (change_of (site_at old k).replica.items c))) same_change
 
   pub erase_cost : (before after : ℕ) → after ≤ before + cost_in_place (checked_transaction (site_at old k).replica (change_of (site_at old k).replica.items (change.Remove from to))) (site_at old k).replica.items →
-      after ≤ before + cost_of_request old.session.committed (member_at old k) (request.Erase dir by)
+      after ≤ before + cost_completed old.session (member_at old k) (request.Erase dir by)
   erase_cost before after h =
       let r = (site_at old k).replica in
       subst (λ m. after ≤ before + cost_of_made (nat_le 2 (length (erasing r m))) (erasing r m) r.items) (sym e)

@@ -4,13 +4,14 @@ use Rattle.std.specs.Prelude.{nat_le}
 use Rattle.model_change.specs.Cost.{cost_of_transactions}
 use Rattle.model_site.specs.Entries.{Parcel}
 use Rattle.model_site.specs.Made.{taking_all, taking_one}
-use Rattle.model_site.specs.Session.{Ack, Foreign, Member, SiteFeed}
+use Rattle.model_site.specs.Session.{Ack, Foreign, Member, Session, SiteFeed}
 use Rattle.model_site.specs.Site.{Site}
 use Rattle.model_world.specs.declared.command.Request.TheVariants as request
-use Rattle.model_world.specs.Cost.{cost_of_made, cost_of_request, is_on_copy, taking}
+use Rattle.model_world.specs.Cost.{cost_of_made, is_on_copy, taking}
 use Rattle.ve_editor.specs.Counted.{steps_over}
 use Rattle.ve_site.specs.Taking.{steps_of_take}
 use Rattle.ve_sites.specs.Turns.{steps_of_next, steps_of_turn}
+use Rattle.ve_session.specs.Asked.{cost_completed}
 use Rattle.ve_session.proofs.CostLemmas.{over_within}
 
 entries_within : (entries : List Parcel) (later : List SiteFeed) (s : Site) → steps_of_take (Foreign entries) s
@@ -22,8 +23,8 @@ entries_within (one ∷ []) later s =
     (over_within (taking_one one s) s.replica.items)
 entries_within (one ∷ other ∷ entries) later s = omega arith
 
-pub take_within : (committed : List Parcel) (m : Member) → steps_of_turn m ≤ cost_of_request committed m request.Take
-take_within committed m = by m.feeds
+pub take_within : (w : Session) (m : Member) → steps_of_turn m ≤ cost_completed w m request.Take
+take_within w m = by m.feeds
   where
     by : (feeds : List SiteFeed) → steps_of_next feeds m.site
         ≤ cost_of_made (is_on_copy request.Take feeds (taking feeds m.site)) (taking feeds m.site) m.site.replica.items

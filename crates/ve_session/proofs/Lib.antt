@@ -19,3 +19,5 @@ pub mod ToldLemmas
 pub mod PlainLemmas
 pub mod ProgramLemmas
 pub mod SessionExamples
+pub mod CompletedLemmas
+pub mod OpeningLemmas

@@ -25,9 +25,9 @@ use Rattle.model_world.specs.Answers.{after_text}
 use Rattle.model_world.specs.Opening.{open_page, session_of}
 use Rattle.model_world.specs.Refusals.{open_refusal, refused_as}
 use Rattle.model_world.specs.World.{World, Open}
-use Rattle.model_world.specs.Cost.{cost_of_command, cost_of_opening, cost_of_request}
-use Rattle.model_world_law.specs.Fit.{LinesAreWritten}
-use Rattle.model_world_law.specs.Reached.{EveryItemStands, EverySiteHolds, SiteHolds}
+use Rattle.model_world.specs.Cost.{cost_of_command, cost_of_opening}
+use Rattle.model_world_law.specs.Fit.{CompletedFit, LinesAreWritten, PagesStand}
+use Rattle.model_world_law.specs.Reached.{EveryItemStands, EverySiteHolds, EveryWorldIsReached, SiteHolds, WorldReached}
 use Rattle.model_world_law.specs.Standing.{has_few_marks, may_stand}
 use Rattle.ve_write.specs.Originals.{opened_over, IsFirst}
 use Rattle.ve_html_scan.specs.declared.token.Span.{Span}
@@ -41,9 +41,10 @@ use Rattle.ve_json.specs.declared.answer.Answer.TheVariants as answer
 use Rattle.ve_json.specs.Answers.{reply_of}
 use Rattle.model_items.specs.Cost.{cost_of_tree}
 use Rattle.ve_tx.specs.Making.{Extends}
-use Rattle.ve_session.specs.Asked.{reply_and_world, IsAnswered, IsAsked}
+use Rattle.ve_session.specs.Asked.{completed_request, cost_completed, is_shown, reply_and_world, IsAnswered, IsAsked}
 use Rattle.ve_session.specs.Opened.{lent_of, page_on, world_on, IsLed, IsOpen, MayOpen, OnPage}
 use Rattle.ve_session.specs.Turning.{CaretStands, MayTurn}
+use Rattle.ve_session.proofs.CompletedLemmas.{shown_same, written_completed}
 use Rattle.ve_session.proofs.CaretLemmas.{is_selected, is_typed, moves, site_put_again}
 use Rattle.ve_session.proofs.CostLemmas.{opening_within}
 use Rattle.ve_session.proofs.NumberedLemmas.{origins_below}
@@ -125,11 +126,11 @@ module _ (o : FirstRead) (old : Shared) (k : ℕ) (within : k < sites old) (is :
       (h.begins.more, h.begins.begins ∙ ap (λ (r : Replica). r.store ++ h.begins.more) (sym h.base_stays))
 
   module _ (r : Request) (asked : IsAsked (Ask r k)) where
-    pub led_on : (new : Shared) (answer : Answer) → IsAnswered r k old answer new → IsLed (Open page_of_it new.session)
+    pub led_on : (new : Shared) (answer : Answer) → IsAnswered (completed_request page_of_it.items r) k old answer new → IsLed (Open page_of_it new.session)
     led_on new answer by =
         subst IsLed (ap (λ (x : Reply × World). x.1) (obeyed_so page_of_it old k r within new answer by)) (led_after (Open page_of_it old.session) (Ask r k) is.led asked)
 
-    pub stays_open : (new : Shared) (answer : Answer) → IsAnswered r k old answer new → IsOpen o new.session
+    pub stays_open : (new : Shared) (answer : Answer) → IsAnswered (completed_request page_of_it.items r) k old answer new → IsOpen o new.session
     stays_open new answer by = record {
       led = subst (λ (b : Replica). IsLed (Open (opened_over b.store o) new.session)) (sym by.base) (led_on new answer by);
       cut = is.cut;
@@ -137,7 +138,7 @@ module _ (o : FirstRead) (old : Shared) (k : ℕ) (within : k < sites old) (is :
       first = subst (λ (b : Replica). IsFirst b.store o) (sym by.base) is.first;
     }
 
-    pub world_is : (new : Shared) (answer : Answer) → IsAnswered r k old answer new → world_on (page_on o new.session) ≡ (reply_and_world (world_on (page_on o old.session)) (Ask r k)).1
+    pub world_is : (new : Shared) (answer : Answer) → IsAnswered (completed_request page_of_it.items r) k old answer new → world_on (page_on o new.session) ≡ (reply_and_world (world_on (page_on o old.session)) (Ask r k)).1
     world_is new answer by =
         ap (λ (b : Replica). Open (opened_over b.store o) new.session) by.base
         ∙ sym (ap (λ (x : Reply × World). x.1) (obeyed_so page_of_it old k r within new answer by))
@@ -175,7 +176,7 @@ module _ (o : FirstRead) (old : Shared) (k : ℕ) (within : k < sites old) (is :
         let is_so = is_typed k old new ts within text middle (length (site_at new k).replica.items) e refl same refl in
         selection_led r asked every site (led_on r asked new (answer.Length (length (site_at new k).replica.items)) is_so)
 
-    caret_stands : (r : Request) → IsAsked (Ask r k) → CaretStands r (site_at old k).replica
+    caret_stands : (r : Request) → IsAsked (Ask r k) → CaretStands (completed_request page_of_it.items r) (site_at old k).replica
     caret_stands (request.Move dir by keep) asked = caret_moved dir by keep asked
     caret_stands (request.TypeText text) asked = caret_typed text asked
     caret_stands request.Html asked = tt
@@ -202,15 +203,18 @@ module _ (o : FirstRead) (old : Shared) (k : ℕ) (within : k < sites old) (is :
     caret_stands (request.ColOut at column) asked = tt
     caret_stands (request.Indent at) asked = tt
     caret_stands (request.Outdent at) asked = tt
-    caret_stands (request.Revoke entry) asked = tt
+    caret_stands (request.Revoke entry live) asked = tt
 
-    pub may_turn : LinesAreWritten → (r : Request) → IsAsked (Ask r k) → MayTurn r (site_at old k).replica
-    may_turn lines r asked = let h = holds every in record {
-      written = lines asked.line r k asked.asks;
-      sound = h.sound;
-      selection = h.selection;
-      caret = caret_stands r asked;
-    }
+    pub may_turn : LinesAreWritten → CompletedFit → PagesStand → EveryWorldIsReached → IsUtf8 o.page → (r : Request) → IsAsked (Ask r k) → MayTurn (completed_request page_of_it.items r) (site_at old k).replica
+    may_turn lines completes stand reached utf8 r asked =
+        let h = holds every in
+        let from = subst (WorldReached is.led.lines) is.led.leads (reached is.led.lines) in
+        record {
+          written = written_completed completes page_of_it.items from.opens.sound (stand from.text page_of_it utf8 from.opened) r (lines asked.line r k asked.asks);
+          sound = h.sound;
+          selection = h.selection;
+          caret = caret_stands r asked;
+        }
 
 -- ---- a page that is open, after a request
 
@@ -219,29 +223,33 @@ fields_on text body rows refs s = page_on (lent_of text body rows s.first refs) 
 
 module _ (text : List ℕ) (body : Span) (rows : List OriginRow) (refs : List RefRow) (old : Shared) (k : ℕ) (within : k < sites old)
     (is : IsOpen (lent_of text body rows old.first refs) old.session) (r : Request) where
-  pub replied : (new : Shared) (answer : Answer) → IsAnswered r k old answer new →
+  pub replied : (new : Shared) (answer : Answer) → IsAnswered (completed_request (fields_on text body rows refs old).page.items r) k old answer new →
       (reply_and_world (world_on (fields_on text body rows refs old)) (Ask r k)).0 ≡ reply_of answer
   replied new answer by = ap (λ (x : Reply × World). x.0) (obeyed_so (fields_on text body rows refs old).page old k r within new answer by)
 
-  pub cost_within : (before after : ℕ) → after ≤ before + cost_of_request old.session.committed (member_at old k) r →
+  pub cost_within : (before after : ℕ) → after ≤ before + cost_completed old.session (member_at old k) (completed_request (fields_on text body rows refs old).page.items r) →
       after ≤ before + cost_of_command (world_on (fields_on text body rows refs old)) (Ok (Ask r k))
   cost_within before after h = subst (λ n. after ≤ before + n) (sym (costs_are (fields_on text body rows refs old).page old k r within)) h
 
-  pub after_open : IsAsked (Ask r k) → (new : Shared) (answer : Answer) → IsAnswered r k old answer new → IsOpen (lent_of text body rows new.first refs) new.session
+  pub after_open : IsAsked (Ask r k) → (new : Shared) (answer : Answer) → IsAnswered (completed_request (fields_on text body rows refs old).page.items r) k old answer new → IsOpen (lent_of text body rows new.first refs) new.session
   after_open asked new answer by =
       subst (λ (first : List Item). IsOpen (lent_of text body rows first refs) new.session) (sym by.first)
       (stays_open (lent_of text body rows old.first refs) old k within is r asked new answer by)
 
-  pub after_world : IsAsked (Ask r k) → (new : Shared) (answer : Answer) → IsAnswered r k old answer new →
+  pub after_world : IsAsked (Ask r k) → (new : Shared) (answer : Answer) → IsAnswered (completed_request (fields_on text body rows refs old).page.items r) k old answer new →
       world_on (fields_on text body rows refs new) ≡ (reply_and_world (world_on (fields_on text body rows refs old)) (Ask r k)).1
   after_world asked new answer by =
       ap (λ (first : List Item). world_on (page_on (lent_of text body rows first refs) new.session)) by.first
       ∙ world_is (lent_of text body rows old.first refs) old k within is r asked new answer by
 
   -- a reply that changes nothing
-  pub shown_world : (answer : Answer) → IsAnswered r k old answer old →
+  pub shown_world : (answer : Answer) → IsAnswered (completed_request (fields_on text body rows refs old).page.items r) k old answer old →
       (reply_and_world (world_on (fields_on text body rows refs old)) (Ask r k)).1 ≡ world_on (fields_on text body rows refs old)
   shown_world answer by = ap (λ (x : Reply × World). x.1) (obeyed_so (fields_on text body rows refs old).page old k r within old answer by)
+
+-- what changes nothing is asked as it is
+pub of_shown : (opened : List PlainItem) (r : Request) (k : ℕ) (s : Shared) (answer : Answer) → is_shown r ≡ true → IsAnswered r k s answer s → IsAnswered (completed_request opened r) k s answer s
+of_shown opened r k s answer shown is = subst (λ (x : Request). IsAnswered x k s answer s) (sym (shown_same opened r shown)) is
 
 -- what is so in any case is so where it went well
 pub always : {A E : Type 0} (P : Type 0) (r : Result A E) → P → OnOk r P

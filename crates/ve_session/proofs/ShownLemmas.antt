@@ -6,12 +6,11 @@ use Rattle.model_site.specs.Session.{Session}
 use Rattle.model_page.specs.PageItems.{Opened}
 use Rattle.model_world.specs.declared.command.Request.{Request}
 use Rattle.model_world.specs.declared.reply.Reply.{Reply}
-use Rattle.model_world.specs.Answers.{request_outcome}
 use Rattle.model_world.specs.Laws.{is_refusal}
 use Rattle.ve_answers.specs.Asked.{outcome_of}
 use Rattle.ve_json.specs.declared.answer.Answer.{Answer}
 use Rattle.ve_json.specs.Answers.{reply_of, AnswerCites}
-use Rattle.ve_session.specs.Asked.{asker, kept_or_new, IsAnswered}
+use Rattle.ve_session.specs.Asked.{asker, kept_or_new, outcome_completed, IsAnswered}
 use Rattle.ve_sites.specs.Shared.{Shared, site_at}
 
 -- a refusal or not, it is the reply, and the session stays
@@ -23,7 +22,7 @@ stays w r = by (is_refusal r)
     by false = refl
 
 pub is_shown : (r : Request) (k : ℕ) (s : Shared) (answer : Answer) (reply : Reply) →
-    ((page : Opened) → request_outcome (asker page s k) r ≡ outcome_of s.session reply) → reply_of answer ≡ reply → AnswerCites answer → IsAnswered r k s answer s
+    ((page : Opened) → outcome_completed (asker page s k) r ≡ outcome_of s.session reply) → reply_of answer ≡ reply → AnswerCites answer → IsAnswered r k s answer s
 is_shown r k s answer reply asks is cites = record {
   replies = λ page. ap (kept_or_new s.session) (asks page) ∙ stays s.session reply ∙ ap (λ (x : Reply). (x, s.session)) (sym is);
   first = refl;
@@ -33,7 +32,7 @@ is_shown r k s answer reply asks is cites = record {
 
 -- a reply that is told of the items that the site lends
 pub shown_over : (r : Request) (k : ℕ) (s : Shared) (told : List PlainItem → Reply) (lent : List PlainItem) →
-    ((page : Opened) → request_outcome (asker page s k) r ≡ outcome_of s.session (told (site_at s k).replica.items)) → lent ≡ (site_at s k).replica.items →
+    ((page : Opened) → outcome_completed (asker page s k) r ≡ outcome_of s.session (told (site_at s k).replica.items)) → lent ≡ (site_at s k).replica.items →
     (answer : Answer) → reply_of answer ≡ told lent → AnswerCites answer → IsAnswered r k s answer s
 shown_over r k s told lent asks same answer is cites = is_shown r k s answer (told (site_at s k).replica.items) asks (is ∙ ap told same) cites
 

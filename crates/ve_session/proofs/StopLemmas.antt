@@ -1,10 +1,10 @@
 -- A fault of the crates below is the refusal of the request.
 use Rattle.std.proofs.Common.{◌≡◌, ℕ, Bool, true, false, ap, ◌∙◌}
 use Rattle.std.specs.Prelude.{Result, nat_lt}
-use Rattle.model_change.specs.Replay.{revoke}
 use Rattle.model_page.specs.PageItems.{Opened}
 use Rattle.model_page.specs.OpenPage.{OpenFault}
-use Rattle.model_site.specs.Site.{entries_of, redo, revoke_by, revoke_entry, send, undo}
+use Rattle.model_site.specs.Live.{revocation}
+use Rattle.model_site.specs.Site.{hinted_entries, redo, revoke_by, revoke_entry, send, undo}
 use Rattle.model_site.specs.declared.site_fault.UndoFault.{UndoFault}
 use Rattle.model_site.specs.declared.site_fault.UndoFault.TheVariants as undone
 use Rattle.model_site.specs.declared.site_fault.RedoFault.{RedoFault}
@@ -13,20 +13,20 @@ use Rattle.model_site.specs.declared.site_fault.SendFault.{SendFault}
 use Rattle.model_site.specs.declared.site_fault.SendFault.TheVariants as sent
 use Rattle.model_world.specs.declared.command.Request.TheVariants as request
 use Rattle.model_world.specs.declared.refusal.Refusal.TheVariants.{BadEntry}
-use Rattle.model_world.specs.Answers.{Asked, Outcome, request_outcome, changed_or_no, refusal_outcome, sent_or_no, site_of}
+use Rattle.model_world.specs.Answers.{Asked, Outcome, changed_or_no, refusal_outcome, sent_or_no, site_of}
 use Rattle.model_world.specs.Refusals.{open_refusal, redo_refusal, refused_as, revoke_refusal, send_refusal, undo_refusal}
 use Rattle.ve_changes.specs.Stops.{IsRefused}
 use Rattle.ve_html_tree.specs.declared.fault.HtmlFault.{HtmlFault}
 use Rattle.ve_html_tree.specs.declared.fault.HtmlFault.TheVariants as html
-use Rattle.ve_peer_undo.specs.declared.fault.RevokeFault.{RevokeFault}
-use Rattle.ve_peer_undo.specs.declared.fault.RevokeFault.TheVariants as revoked
-use Rattle.ve_peer_undo.specs.Refusal.{IsRevokeRefusal}
+use Rattle.ve_peer_undo.specs.declared.fault.LiveFault.{LiveFault}
+use Rattle.ve_peer_undo.specs.declared.fault.LiveFault.TheVariants as revoked
+use Rattle.ve_peer_undo.specs.Refusal.{IsLiveRefusal}
 use Rattle.ve_read.specs.Pages.{IsBad, IsRefusal, spelled_fault}
 use Rattle.ve_read.specs.declared.fault.ReadFault.{ReadFault}
 use Rattle.ve_read.specs.declared.fault.ReadFault.TheVariants as page
 use Rattle.ve_site.specs.Refusal.{IsRedoRefusal, IsSendRefusal, IsUndoRefusal}
 use Rattle.ve_changes.specs.HtmlStops.{html_stop}
-use Rattle.ve_session.specs.Asked.{asker, IsStopped}
+use Rattle.ve_session.specs.Asked.{asker, outcome_completed, IsStopped}
 use Rattle.ve_session.specs.Stopped.{page_stop, redo_stop, revoke_stop, send_stop, undo_stop}
 use Rattle.ve_sites.specs.Shared.{Shared, site_at}
 
@@ -67,24 +67,27 @@ send_stops sent.Memory k old e = tt
 
 -- ---- a committed entry that is taken back
 
-revoked_by : Asked → ℕ → Bool → Outcome
-revoked_by a i seen = elim seen [
+revoked_by : Asked → ℕ → (live : Bool) → Bool → Outcome
+revoked_by a i live seen = elim seen [
   | false ↦ refusal_outcome (BadEntry i (site_of a).seen)
-  | true ↦ changed_or_no a (refused_as revoke_refusal (revoke_entry a.session.committed i (site_of a)))
+  | true ↦ changed_or_no a (refused_as (revoke_refusal i) (revoke_entry a.session.committed a.session.hints live i (site_of a)))
 ]
 
-pub revokes : (a : Asked) (i : ℕ) → nat_lt i (site_of a).seen ≡ true →
-    request_outcome a (request.Revoke i) ≡ changed_or_no a (refused_as revoke_refusal (revoke_entry a.session.committed i (site_of a)))
+pub revokes : (a : Asked) (i : ℕ) (live : Bool) → nat_lt i (site_of a).seen ≡ true →
+    outcome_completed a (request.Revoke i live) ≡ changed_or_no a (refused_as (revoke_refusal i) (revoke_entry a.session.committed a.session.hints live i (site_of a)))
 unfolding revoked_by
-revokes a i seen = ap (revoked_by a i) seen
+revokes a i live seen = ap (revoked_by a i live) seen
 
-pub no_entry : (a : Asked) (i : ℕ) → nat_lt i (site_of a).seen ≡ false → request_outcome a (request.Revoke i) ≡ refusal_outcome (BadEntry i (site_of a).seen)
+pub no_entry : (a : Asked) (i : ℕ) (live : Bool) → nat_lt i (site_of a).seen ≡ false → outcome_completed a (request.Revoke i live) ≡ refusal_outcome (BadEntry i (site_of a).seen)
 unfolding revoked_by
-no_entry a i unseen = ap (revoked_by a i) unseen
+no_entry a i live unseen = ap (revoked_by a i live) unseen
 
-pub revoke_stops : (why : RevokeFault) (k i : ℕ) (old : Shared) → nat_lt i (site_at old k).seen ≡ true →
-    IsRevokeRefusal (revoke (entries_of old.session.committed (site_at old k)) i) why → IsStopped (request.Revoke i) k old (revoke_stop why)
-revoke_stops (revoked.Conflict later reversal) k i old seen e = λ page.
-    revokes (asker page old k) i seen
-    ∙ ap (λ r. changed_or_no (asker page old k) (refused_as revoke_refusal (revoke_by r (site_at old k)))) e
-revoke_stops revoked.Memory k i old seen e = tt
+pub revoke_stops : (why : LiveFault) (k i : ℕ) (live : Bool) (old : Shared) → nat_lt i (site_at old k).seen ≡ true →
+    IsLiveRefusal (revocation live (hinted_entries old.session.committed old.session.hints (site_at old k)) i) why → IsStopped (request.Revoke i live) k old (revoke_stop i why)
+revoke_stops (revoked.TakenBack by) k i live old seen e = λ page.
+    revokes (asker page old k) i live seen
+    ∙ ap (λ r. changed_or_no (asker page old k) (refused_as (revoke_refusal i) (revoke_by i r (site_at old k)))) e
+revoke_stops (revoked.Conflict later reversal) k i live old seen e = λ page.
+    revokes (asker page old k) i live seen
+    ∙ ap (λ r. changed_or_no (asker page old k) (refused_as (revoke_refusal i) (revoke_by i r (site_at old k)))) e
+revoke_stops revoked.Memory k i live old seen e = tt

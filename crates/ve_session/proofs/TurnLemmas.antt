@@ -11,14 +11,14 @@ use Rattle.model_world.specs.declared.command.Request.{Request}
 use Rattle.model_world.specs.declared.refusal.Refusal.{Refusal}
 use Rattle.model_world.specs.declared.reply.Reply.{Reply}
 use Rattle.model_world.specs.declared.reply.Reply.TheVariants.{Length}
-use Rattle.model_world.specs.Answers.{request_outcome, changed_or_no, performed_or_no}
+use Rattle.model_world.specs.Answers.{changed_or_no, performed_or_no}
 use Rattle.model_world.specs.Edits.{checked_transaction, unless_faulty}
 use Rattle.ve_changes.specs.declared.faults.ChangeStop.{ChangeStop}
 use Rattle.ve_changes.specs.declared.faults.ChangeStop.TheVariants as stop
 use Rattle.ve_changes.specs.Stops.{IsRefused}
 use Rattle.ve_json.specs.declared.answer.Answer.{Answer}
 use Rattle.ve_json.specs.declared.answer.Answer.TheVariants as answer
-use Rattle.ve_session.specs.Asked.{asker, kept_or_new, IsAnswered, IsPerformed, IsStopped}
+use Rattle.ve_session.specs.Asked.{asker, kept_or_new, outcome_completed, IsAnswered, IsPerformed, IsStopped}
 use Rattle.ve_sites.specs.Shared.{Shared, member_at, site_at, sites, with_member_at, with_site_at}
 
 -- ---- members put into position
@@ -54,7 +54,7 @@ module _ (old new : Shared) (k : ℕ) (same : new ≡ with_site_at k (site_at ne
       ap (λ n. (Length n, (with_site_at k (site_at new k) old).session)) (sym counted) ∙ ap (λ (s : Shared). (Length count, s.session)) (sym same)
 
   pub is_changed : (r : Request) (given : Result Site Refusal) (count : ℕ) →
-      ((page : Opened) → request_outcome (asker page old k) r ≡ changed_or_no (asker page old k) given) → given ≡ Ok (site_at new k) →
+      ((page : Opened) → outcome_completed (asker page old k) r ≡ changed_or_no (asker page old k) given) → given ≡ Ok (site_at new k) →
       count ≡ length (site_at new k).replica.items → IsAnswered r k old (answer.Length count) new
   is_changed r given count asks gives counted = record {
     replies = λ page.
@@ -67,7 +67,7 @@ module _ (old new : Shared) (k : ℕ) (same : new ≡ with_site_at k (site_at ne
   }
 
 pub is_refused : (r : Request) (old : Shared) (k : ℕ) (given : Result Site Refusal) (why : Refusal) →
-    ((page : Opened) → request_outcome (asker page old k) r ≡ changed_or_no (asker page old k) given) → given ≡ Err why → IsStopped r k old (stop.Refused why)
+    ((page : Opened) → outcome_completed (asker page old k) r ≡ changed_or_no (asker page old k) given) → given ≡ Err why → IsStopped r k old (stop.Refused why)
 is_refused r old k given why asks gives = λ page. asks page ∙ ap (changed_or_no (asker page old k)) gives
 
 -- ---- a transaction that is performed
@@ -95,7 +95,7 @@ is_performed t k old new count e same counted =
 
 -- a request that is answered by performing the transaction that is meant, where it may be
 module _ (r : Request) (k : ℕ) (old : Shared) (meant : Result Transaction Refusal)
-    (asks : (page : Opened) → request_outcome (asker page old k) r ≡ performed_or_no (asker page old k) (checked_transaction (site_at old k).replica meant)) where
+    (asks : (page : Opened) → outcome_completed (asker page old k) r ≡ performed_or_no (asker page old k) (checked_transaction (site_at old k).replica meant)) where
   pub answered_by : (t : Transaction) (a : Answer) (new : Shared) → meant ≡ Ok t → IsPerformed t k old a new → IsAnswered r k old a new
   answered_by t a new means is = record {
     replies = λ page.

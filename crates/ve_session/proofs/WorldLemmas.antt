@@ -17,11 +17,12 @@ use Rattle.model_world.specs.Answers.{Outcome, request_outcome}
 use Rattle.model_world.specs.Commands.{command}
 use Rattle.model_world.specs.Opening.{open_page, session_of}
 use Rattle.model_world.specs.World.{World, Closed, Open, Answer as WorldAnswer, answered_if, asked_of, meaning, on_page, opened_or_no, reply, reply_and_next, world_after}
-use Rattle.model_world.specs.Cost.{cost_at, cost_of_command, cost_of_opening, cost_of_request}
+use Rattle.model_world.specs.Cost.{cost_at, cost_of_command, cost_of_opening}
 use Rattle.ve_json.specs.declared.answer.Answer.{Answer}
 use Rattle.ve_json.specs.Answers.{reply_of}
-use Rattle.ve_session.specs.Asked.{asker, kept_or_new, reply_and_world, IsAnswered, IsAsked}
+use Rattle.ve_session.specs.Asked.{asker, completed_request, cost_completed, kept_or_new, reply_and_world, IsAnswered, IsAsked}
 use Rattle.ve_session.specs.Opened.{IsLed, MayOpen, OnPage, world_on}
+use Rattle.ve_session.proofs.CompletedLemmas.{costs_are_completed, outcomes_are}
 use Rattle.ve_sites.specs.Shared.{Shared, member_at, sites}
 
 -- ---- one line more
@@ -109,11 +110,15 @@ module _ (page : Opened) (old : Shared) (k : ℕ) (r : Request) (within : k < si
       ap (λ m. reply_and_next (Open page old.session) (asked_of page old.session r k m)) there
       ∙ settles page old.session (request_outcome (asker page old k) r)
 
-  pub obeyed_so : (new : Shared) (answer : Answer) → IsAnswered r k old answer new → reply_and_world (Open page old.session) (Ask r k) ≡ (reply_of answer, Open page new.session)
-  obeyed_so new answer is = obeyed_is ∙ ap (λ (x : Reply × Session). (x.0, Open page x.1)) (is.replies page)
+  pub obeyed_so : (new : Shared) (answer : Answer) → IsAnswered (completed_request page.items r) k old answer new →
+      reply_and_world (Open page old.session) (Ask r k) ≡ (reply_of answer, Open page new.session)
+  obeyed_so new answer is =
+      obeyed_is
+      ∙ ap (λ o. ((kept_or_new old.session o).0, Open page (kept_or_new old.session o).1)) (outcomes_are (asker page old k) r)
+      ∙ ap (λ (x : Reply × Session). (x.0, Open page x.1)) (is.replies page)
 
-  pub costs_are : cost_of_command (Open page old.session) (Ok (Ask r k)) ≡ cost_of_request old.session.committed (member_at old k) r
-  costs_are = ap (cost_at old.session.committed r) there
+  pub costs_are : cost_of_command (Open page old.session) (Ok (Ask r k)) ≡ cost_completed old.session (member_at old k) (completed_request page.items r)
+  costs_are = ap (cost_at page.items old.session r) there ∙ costs_are_completed page.items old.session (member_at old k) r
 
 -- there is no such site
 pub bad_site : (p : OnPage) (k : ℕ) (r : Request) → length p.session.members ≤ k →

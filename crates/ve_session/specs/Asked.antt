@@ -1,16 +1,19 @@
 -- Requests to a world or to one of its sites, and their outcome.
-use Rattle.std.specs.Prelude.{◌≡◌, ℕ, nat_lt, Bool, true, false, List, length, Ok, Err}
+use Rattle.std.specs.Prelude.{◌≡◌, ℕ, nat_lt, Bool, true, false, List, [], length, map, Ok, Err}
 use Rattle.ve_base.specs.Limits.{max_line}
 use Rattle.model_page.specs.PageItems.{Opened}
-use Rattle.model_site.specs.Session.{Session}
+use Rattle.model_items.specs.declared.plain_item.PlainItem.{PlainItem}
+use Rattle.model_site.specs.Session.{Member, Session}
 use Rattle.model_world.specs.declared.command.Request.{Request}
 use Rattle.model_world.specs.declared.command.Request.TheVariants as request
 use Rattle.model_world.specs.declared.command.Command.{Command}
 use Rattle.model_world.specs.declared.reply.Reply.{Reply}
 use Rattle.model_change.specs.Transaction.{Transaction}
 use Rattle.model_world.specs.declared.reply.Reply.TheVariants.{No}
-use Rattle.model_world.specs.Answers.{Asked, Outcome, request_outcome, performed_or_no}
-use Rattle.model_world.specs.Edits.{checked_transaction}
+use Rattle.model_world.specs.Answers.{Asked, Outcome, batch_or_no, performed_or_no, replica_of, request_outcome}
+use Rattle.model_world.specs.Completed.{completed}
+use Rattle.model_world.specs.Cost.{cost_of_made, is_on_copy, made_by, made_in_turn, made_of}
+use Rattle.model_world.specs.Edits.{batch_on, change_on, checked_transaction}
 use Rattle.model_world.specs.Commands.{command}
 use Rattle.model_world.specs.World.{World, answer_of, reply_and_next}
 use Rattle.ve_json.specs.declared.answer.Answer.{Answer}
@@ -54,10 +57,31 @@ abbrev pub kept_or_new : Session → Outcome → Reply × Session
 kept_or_new w (Ok both) = both
 kept_or_new w (Err refused) = (refused, w)
 
--- The answer and the new session are what the model answers to the request, on whatever page it is
--- asked.
+-- a request with what it takes from the page as it was first read
+abbrev pub completed_request : (opened : List PlainItem) → Request → Request
+completed_request opened (request.Edit change) = request.Edit (completed opened change)
+completed_request opened (request.Batch cmds) = request.Batch (map (completed opened) cmds)
+completed_request opened r = r
+
+-- the outcome of a request that is completed: it needs no page
+abbrev pub outcome_completed : Asked → Request → Outcome
+outcome_completed a (request.Edit change) = performed_or_no a (change_on (replica_of a) change)
+outcome_completed a (request.Batch cmds) = batch_or_no a (batch_on (replica_of a) cmds)
+outcome_completed a r = request_outcome a r
+
+abbrev pub made_completed : Session → Member → Request → List Transaction
+made_completed w m (request.Edit change) = made_of (change_on m.site.replica change)
+made_completed w m (request.Batch cmds) = made_in_turn m.site.replica cmds
+made_completed w m r = made_by [] w m r
+
+-- and its cost
+abbrev pub cost_completed : Session → Member → Request → ℕ
+cost_completed w m r = let ts = made_completed w m r in cost_of_made (is_on_copy r m.feeds ts) ts m.site.replica.items
+
+-- The answer and the new session are what the model answers to the request, which is
+-- completed, on whatever page it is asked.
 pub record IsAnswered (r : Request) (k : ℕ) (old : Shared) (answer : Answer) (new : Shared) : Type 0 where
-  pub replies : (page : Opened) → kept_or_new old.session (request_outcome (asker page old k) r) ≡ (reply_of answer, new.session)
+  pub replies : (page : Opened) → kept_or_new old.session (outcome_completed (asker page old k) r) ≡ (reply_of answer, new.session)
   pub first : new.first ≡ old.first
   pub base : new.session.base ≡ old.session.base
   pub cites : AnswerCites answer
@@ -71,5 +95,5 @@ pub record IsPerformed (t : Transaction) (k : ℕ) (old : Shared) (answer : Answ
 
 -- The request is refused; or memory is wanting, which may be at any time.
 abbrev pub IsStopped : Request → ℕ → Shared → ChangeStop → Type 0
-IsStopped r k old (stop.Refused why) = (page : Opened) → request_outcome (asker page old k) r ≡ Err (No why)
+IsStopped r k old (stop.Refused why) = (page : Opened) → outcome_completed (asker page old k) r ≡ Err (No why)
 IsStopped r k old stop.Memory = Unit {0}

@@ -1,4 +1,5 @@
 -- The faults of the crates below, as stops of a request.
+use Rattle.std.specs.Prelude.{ℕ}
 use Rattle.model_site.specs.declared.site_fault.UndoFault.{UndoFault}
 use Rattle.model_site.specs.declared.site_fault.UndoFault.TheVariants as undo
 use Rattle.model_site.specs.declared.site_fault.RedoFault.{RedoFault}
@@ -9,8 +10,8 @@ use Rattle.model_world.specs.declared.refusal.Refusal.TheVariants as refusal
 use Rattle.ve_changes.specs.declared.faults.ChangeStop.{ChangeStop}
 use Rattle.ve_changes.specs.declared.faults.ChangeStop.TheVariants as stop
 use Rattle.ve_changes.specs.HtmlStops.{html_stop}
-use Rattle.ve_peer_undo.specs.declared.fault.RevokeFault.{RevokeFault}
-use Rattle.ve_peer_undo.specs.declared.fault.RevokeFault.TheVariants as revoke
+use Rattle.ve_peer_undo.specs.declared.fault.LiveFault.{LiveFault}
+use Rattle.ve_peer_undo.specs.declared.fault.LiveFault.TheVariants as live
 use Rattle.ve_read.specs.declared.fault.ReadFault.{ReadFault}
 use Rattle.ve_read.specs.declared.fault.ReadFault.TheVariants as page
 
@@ -37,6 +38,8 @@ send_stop (send.InFlight entries) = stop.Refused (refusal.InFlight entries)
 send_stop send.NothingToSend = stop.Refused refusal.NothingToSend
 send_stop send.Memory = stop.Memory
 
-abbrev pub revoke_stop : RevokeFault → ChangeStop
-revoke_stop (revoke.Conflict later reversal) = stop.Refused (refusal.RevokeConflict later reversal)
-revoke_stop revoke.Memory = stop.Memory
+-- of entry i
+abbrev pub revoke_stop : (i : ℕ) → LiveFault → ChangeStop
+revoke_stop i (live.TakenBack by) = stop.Refused (refusal.TakenBack i by)
+revoke_stop i (live.Conflict later reversal) = stop.Refused (refusal.RevokeConflict later reversal)
+revoke_stop i live.Memory = stop.Memory

@@ -1,8 +1,7 @@
 // Several changes of a site's list as one entry.
 ghost use Rattle.std.specs.Prelude.{◌≡◌, ◌≢◌, ◌<◌, ◌≤◌, ◌+◌, IfErr, IfOk, OnErr};
 ghost use Rattle.model_world.specs.declared.command.Request.TheVariants as request;
-ghost use Rattle.model_world.specs.Cost.{cost_of_request};
-ghost use Rattle.ve_session.specs.Asked.{IsAnswered, IsStopped};
+ghost use Rattle.ve_session.specs.Asked.{cost_completed, IsAnswered, IsStopped};
 ghost use Rattle.ve_session.specs.Turning.{MayTurn};
 ghost use Rattle.ve_sites.specs.Shared.{member_at, site_at, sites};
 
@@ -33,7 +32,7 @@ pub fn batch<L: Ledger>(
     ensures steps { IfErr result (λ stop. stop ≢ ChangeStop.Memory)
         → steps.new
         ≤ steps.old
-        + cost_of_request session.old.session.committed (member_at session.old k) (
+        + cost_completed session.old.session (member_at session.old k) (
         request.Batch changes.now) }
 {
     let batch = Batch::new(alloc, changes.as_slice());

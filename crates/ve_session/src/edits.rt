@@ -4,13 +4,13 @@ ghost use Rattle.model_change.specs.Transaction.{InsertedApart};
 ghost use Rattle.model_world.specs.declared.command.Request.TheVariants as request;
 ghost use Rattle.model_world.specs.Edits.{checked_transaction};
 ghost use Rattle.model_change.specs.Cost.{cost_of_transactions};
-ghost use Rattle.model_world.specs.Cost.{cost_of_request, made_of};
+ghost use Rattle.model_world.specs.Cost.{made_of};
 ghost use Rattle.ve_changes.specs.Moves.{is_move};
 ghost use Rattle.ve_changes.specs.Stops.{IsRefused};
 ghost use Rattle.ve_editor.specs.Edited.{drafted, IsDraftOf};
 ghost use Rattle.ve_editor.specs.Page.{IsPage};
 ghost use Rattle.ve_offsets.specs.Docs.{page_items};
-ghost use Rattle.ve_session.specs.Asked.{IsAnswered, IsPerformed, IsStopped};
+ghost use Rattle.ve_session.specs.Asked.{cost_completed, IsAnswered, IsPerformed, IsStopped};
 ghost use Rattle.ve_session.specs.Turning.{MayTurn};
 ghost use Rattle.ve_sites.specs.Shared.{member_at, site_at, sites};
 
@@ -97,7 +97,7 @@ pub fn edit<L: Ledger>(
     ensures steps { IfErr result (λ stop. stop ≢ ChangeStop.Memory)
         → steps.new
         ≤ steps.old
-        + cost_of_request session.old.session.committed (member_at session.old k) (
+        + cost_completed session.old.session (member_at session.old k) (
         request.Edit change.now) }
 {
     layers_fit();
@@ -124,7 +124,7 @@ pub fn move_part<L: Ledger>(
     ensures steps { IfErr result (λ stop. stop ≢ ChangeStop.Memory)
         → steps.new
         ≤ steps.old
-        + cost_of_request session.old.session.committed (member_at session.old k) request.now }
+        + cost_completed session.old.session (member_at session.old k) request.now }
 {
     layers_fit();
     moves_are_asked();
@@ -151,7 +151,7 @@ pub fn erase<L: Ledger>(
     ensures steps { IfErr result (λ stop. stop ≢ ChangeStop.Memory)
         → steps.new
         ≤ steps.old
-        + cost_of_request session.old.session.committed (member_at session.old k) (
+        + cost_completed session.old.session (member_at session.old k) (
         request.Erase dir by) }
 {
     layers_fit();

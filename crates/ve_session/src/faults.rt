@@ -5,7 +5,7 @@ ghost use Rattle.ve_session.specs.Stopped.{page_stop, redo_stop, revoke_stop, se
 use model_site::{RedoFault, SendFault, UndoFault};
 use model_world::Refusal;
 use ve_changes::ChangeStop;
-use ve_peer_undo::RevokeFault;
+use ve_peer_undo::LiveFault;
 use ve_read::ReadFault;
 
 /// Why a page isn't opened.
@@ -55,14 +55,16 @@ pub fn of_send(fault: SendFault) -> ChangeStop
     }
 }
 
-/// Why an entry isn't taken back: the later entry's range and the reversal's are in conflict.
-pub fn of_revoke(fault: RevokeFault) -> ChangeStop
-    ensures { result ≡ revoke_stop fault }
+/// Why an entry isn't taken back: another one took it back, or the later entry's range and the
+/// reversal's are in conflict.
+pub fn of_revoke(entry: usize, fault: LiveFault) -> ChangeStop
+    ensures { result ≡ revoke_stop entry fault }
 {
     match fault {
-        RevokeFault::Conflict { later, reversal } => {
+        LiveFault::TakenBack { by } => ChangeStop::Refused(Refusal::TakenBack { entry, by }),
+        LiveFault::Conflict { later, reversal } => {
             ChangeStop::Refused(Refusal::RevokeConflict { later, reversal })
         }
-        RevokeFault::Memory => ChangeStop::Memory,
+        LiveFault::Memory => ChangeStop::Memory,
     }
 }

@@ -1,8 +1,7 @@
 // Undo and redo of a site.
 ghost use Rattle.std.specs.Prelude.{◌≡◌, ◌<◌, ◌≤◌, ◌+◌, IfErr, IfOk, OnErr};
 ghost use Rattle.model_world.specs.declared.command.Request.TheVariants as request;
-ghost use Rattle.model_world.specs.Cost.{cost_of_request};
-ghost use Rattle.ve_session.specs.Asked.{IsAnswered, IsStopped};
+ghost use Rattle.ve_session.specs.Asked.{cost_completed, IsAnswered, IsStopped};
 ghost use Rattle.ve_session.specs.Turning.{MayTurn};
 ghost use Rattle.ve_sites.specs.Shared.{member_at, site_at, sites};
 
@@ -30,7 +29,7 @@ pub fn undo<L: Ledger>(
     ensures counted { steps.old ≤ steps.new }
     ensures steps { steps.new
         ≤ steps.old
-        + cost_of_request session.old.session.committed (member_at session.old k) request.Undo }
+        + cost_completed session.old.session (member_at session.old k) request.Undo }
 {
     match session.undo(k, steps) {
         Ok(()) => Ok(Answer::Length(len_at(session, k))),
@@ -53,7 +52,7 @@ pub fn redo<L: Ledger>(
     ensures counted { steps.old ≤ steps.new }
     ensures steps { steps.new
         ≤ steps.old
-        + cost_of_request session.old.session.committed (member_at session.old k) request.Redo }
+        + cost_completed session.old.session (member_at session.old k) request.Redo }
 {
     match session.redo(k, steps) {
         Ok(()) => Ok(Answer::Length(len_at(session, k))),
@@ -61,31 +60,33 @@ pub fn redo<L: Ledger>(
     }
 }
 
-/// A committed entry that a site has seen taken back under all later ones.
+/// A committed entry that a site has seen taken back under all later ones, or where `live` under
+/// those that still count.
 pub fn revoke<L: Ledger>(
     session: &mut Sites,
     k: usize,
     entry: usize,
+    live: bool,
     steps: &mut Steps<L>,
 ) -> Result<Answer<'static>, ChangeStop>
     requires site { k < sites session.old }
-    requires may { MayTurn (request.Revoke entry) (site_at session.old k).replica }
+    requires may { MayTurn (request.Revoke entry live) (site_at session.old k).replica }
     ensures answer { IfOk result (λ answer.
-        IsAnswered (request.Revoke entry) k session.old answer session.new) }
-    ensures refused { IfErr result (IsStopped (request.Revoke entry) k session.old) }
+        IsAnswered (request.Revoke entry live) k session.old answer session.new) }
+    ensures refused { IfErr result (IsStopped (request.Revoke entry live) k session.old) }
     ensures kept { OnErr result (session.new ≡ session.old) }
     ensures counted { steps.old ≤ steps.new }
     ensures steps { steps.new
         ≤ steps.old
-        + cost_of_request session.old.session.committed (member_at session.old k) (
-        request.Revoke entry) }
+        + cost_completed session.old.session (member_at session.old k) (
+        request.Revoke entry live) }
 {
     let seen = session.site(k).seen();
     if entry >= seen {
         return Err(ChangeStop::Refused(Refusal::BadEntry { entry, seen }));
     }
-    match session.revoke(k, entry, steps) {
+    match session.revoke(k, entry, live, steps) {
         Ok(()) => Ok(Answer::Length(len_at(session, k))),
-        Err(fault) => Err(of_revoke(fault)),
+        Err(fault) => Err(of_revoke(entry, fault)),
     }
 }

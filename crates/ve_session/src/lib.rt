@@ -10,7 +10,8 @@
 //! ([`World::lines_lead`]), and nothing is asked of its caller. In reading order:
 //!
 //! - `States`: the state that a world keeps between lines, and the machine that a world is;
-//! - `Asked`: the outcome of a command, and of a request to one of the sites;
+//! - `Asked`: the outcome of a command, and of a request to one of the sites; a request is completed
+//!   first, with what it takes from the page as it was first read;
 //! - `Opened`: the invariant of an open page; `Turning`: the invariant of a site that is asked;
 //! - `Stopped`: how a refusal of the crates below is told;
 //! - `Ends`: how much of two lists agrees at the beginning and at the end, by which `html` compares
@@ -28,6 +29,7 @@
 #![tactic(auto)]
 
 mod batches;
+mod completion;
 mod edits;
 mod ends;
 mod faults;

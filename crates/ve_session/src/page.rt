@@ -7,10 +7,11 @@ ghost use Rattle.model_world.specs.Cost.{cost_of_command, cost_of_opening};
 ghost use Rattle.ve_run.specs.Run.{reply_line};
 ghost use Rattle.ve_changes.specs.Stops.{IsRefused};
 ghost use Rattle.ve_read.specs.Pages.{HasPlaces, IsReadPage};
-ghost use Rattle.ve_session.specs.Asked.{is_shown, reply_and_world, IsAsked};
+ghost use Rattle.ve_session.specs.Asked.{completed_request, is_shown, reply_and_world, IsAsked};
 ghost use Rattle.ve_session.specs.Opened.{world_on, HasUtf8Page, IsLed, MayOpen};
 ghost use Rattle.ve_editor.specs.Page.{replica_of};
 
+use crate::completion::completed_request;
 use crate::edits::doc_at;
 use crate::ends::{ends_within, known_at};
 use crate::faults::of_page;
@@ -20,13 +21,15 @@ use crate::turn::turn;
 use model_change::transactions_give;
 use model_items::plain_tells_apart;
 use model_page::RefTable;
-use model_world_law::{every_item_stands, every_site_holds, layers_fit};
+use model_world_law::{
+    every_item_stands, every_site_holds, every_world_is_reached, insertions_stand, layers_fit,
+};
 use std::alloc::Global;
 use std::marker::Model;
 use std::sync::ledger::Ledger;
 use ve_answers::{html, replies_are_as_asked};
 use ve_base::{Bytes, Memory, Steps, Text};
-use ve_changes::ChangeStop;
+use ve_changes::{ChangeStop, FirstItems};
 use ve_editor::Editor;
 use ve_html_scan::Span;
 use ve_internal::table;
@@ -232,33 +235,54 @@ impl OpenPage {
         reply_text(alloc, &answer, out)
     }
 
+    /// A request to a site with what it takes from the page as it was first read.
+    fn completed(&self, alloc: Global, k: usize, request: Request) -> Result<Request, Memory>
+        requires site { k < length self.now.session.members }
+        ensures { IfOk result (λ done.
+            done ≡ completed_request self.now.page.items request) }
+    {
+        // every site's store begins with the first one
+        every_site_holds();
+        let first = FirstItems {
+            list: self.session.first(),
+            rows: &self.rows,
+            store: doc_at(&self.session, k).store,
+        };
+        completed_request(alloc, first, request)
+    }
+
     /// Performs a request to a site, and appends the reply. A refusal changes nothing.
     fn act<L: Ledger>(
         &mut self,
         alloc: Global,
-        request: &Request,
+        request: Request,
         k: usize,
         out: &mut Bytes,
         steps: &mut Steps<L>,
     ) -> Result<(), Memory>
-        requires asked { IsAsked (Ask request.now k) }
+        requires asked { IsAsked (Ask request k) }
         requires site { k < length self.old.session.members }
-        requires acts { is_shown request.now ≡ false }
+        requires acts { is_shown request ≡ false }
         ensures reply { OnOk result (
             out.new
             ≡ out.old
-            ++ reply_line (reply_and_world (world_on self.old) (Ask request.now k)).0) }
+            ++ reply_line (reply_and_world (world_on self.old) (Ask request k)).0) }
         ensures world { OnOk result (
-            world_on self.new ≡ (reply_and_world (world_on self.old) (Ask request.now k)).1) }
+            world_on self.new ≡ (reply_and_world (world_on self.old) (Ask request k)).1) }
         ensures unsaid { OnErr result (out.new ≡ out.old) }
         ensures counted { steps.old ≤ steps.new }
         ensures cost { OnOk result (
             steps.new
-            ≤ steps.old + cost_of_command (world_on self.old) (Ok (Ask request.now k))) }
+            ≤ steps.old + cost_of_command (world_on self.old) (Ok (Ask request k))) }
     {
         layers_fit();
         every_site_holds();
-        let answer = turn(alloc, &mut self.session, k, request, steps)?;
+        // the page was opened, so its items may stand
+        every_world_is_reached();
+        insertions_stand();
+        let _text = self.text.as_str();
+        let request = self.completed(alloc, k, request)?;
+        let answer = turn(alloc, &mut self.session, k, &request, steps)?;
         reply_text(alloc, &answer, out)
     }
 
@@ -266,27 +290,27 @@ impl OpenPage {
     pub fn answer<L: Ledger>(
         &mut self,
         alloc: Global,
-        request: &Request,
+        request: Request,
         k: usize,
         out: &mut Bytes,
         steps: &mut Steps<L>,
     ) -> Result<(), Memory>
-        requires asked { IsAsked (Ask request.now k) }
+        requires asked { IsAsked (Ask request k) }
         requires site { k < length self.old.session.members }
         ensures reply { OnOk result (
             out.new
             ≡ out.old
-            ++ reply_line (reply_and_world (world_on self.old) (Ask request.now k)).0) }
+            ++ reply_line (reply_and_world (world_on self.old) (Ask request k)).0) }
         ensures world { OnOk result (
-            world_on self.new ≡ (reply_and_world (world_on self.old) (Ask request.now k)).1) }
+            world_on self.new ≡ (reply_and_world (world_on self.old) (Ask request k)).1) }
         ensures unsaid { OnErr result (out.new ≡ out.old) }
         ensures counted { steps.old ≤ steps.new }
         ensures cost { OnOk result (
             steps.new
-            ≤ steps.old + cost_of_command (world_on self.old) (Ok (Ask request.now k))) }
+            ≤ steps.old + cost_of_command (world_on self.old) (Ok (Ask request k))) }
     {
-        if is_shown(request) {
-            self.show(alloc, request, k, out)
+        if is_shown(&request) {
+            self.show(alloc, &request, k, out)
         } else {
             self.act(alloc, request, k, out, steps)
         }

@@ -2,9 +2,8 @@
 ghost use Rattle.std.specs.Prelude.{◌≡◌, ◌<◌, ◌≤◌, ◌+◌, IfErr, IfOk, OnErr, option_map};
 ghost use Rattle.model_world.specs.Answers.{ranges, taken_reply};
 ghost use Rattle.model_world.specs.declared.command.Request.TheVariants as request;
-ghost use Rattle.model_world.specs.Cost.{cost_of_request};
 ghost use Rattle.ve_json.specs.Answers.{reply_of};
-ghost use Rattle.ve_session.specs.Asked.{IsAnswered, IsStopped};
+ghost use Rattle.ve_session.specs.Asked.{cost_completed, IsAnswered, IsStopped};
 ghost use Rattle.ve_session.specs.Turning.{MayTurn};
 ghost use Rattle.ve_sites.specs.Shared.{member_at, site_at, sites};
 
@@ -86,7 +85,7 @@ pub fn take<L: Ledger>(
     ensures counted { steps.old ≤ steps.new }
     ensures steps { steps.new
         ≤ steps.old
-        + cost_of_request session.old.session.committed (member_at session.old k) request.Take }
+        + cost_completed session.old.session (member_at session.old k) request.Take }
 {
     let Some(taken) = session.take(k, steps)? else {
         return Err(ChangeStop::Refused(Refusal::NothingQueued));

@@ -1,8 +1,7 @@
 // A request that may change a site or the queues.
 ghost use Rattle.std.specs.Prelude.{◌≡◌, ◌≢◌, ◌<◌, ◌≤◌, ◌+◌, false, IfErr, IfOk, OnErr, OnOk};
-ghost use Rattle.model_world.specs.Cost.{cost_of_request};
 ghost use Rattle.ve_json.specs.Answers.{AnswerCites};
-ghost use Rattle.ve_session.specs.Asked.{is_shown, IsAnswered, IsStopped};
+ghost use Rattle.ve_session.specs.Asked.{cost_completed, is_shown, IsAnswered, IsStopped};
 ghost use Rattle.ve_session.specs.Turning.{MayTurn};
 ghost use Rattle.ve_sites.specs.Shared.{member_at, site_at, sites};
 
@@ -20,7 +19,7 @@ use ve_changes::ChangeStop;
 use ve_json::{Answer, Request};
 use ve_sites::Sites;
 
-/// The effect of a request to a site, and its answer.
+/// The effect of a request to a site, which is completed, and its answer.
 fn done<L: Ledger>(
     alloc: Global,
     session: &mut Sites,
@@ -39,7 +38,7 @@ fn done<L: Ledger>(
     ensures steps { IfErr result (λ stop. stop ≢ ChangeStop.Memory)
         → steps.new
         ≤ steps.old
-        + cost_of_request session.old.session.committed (member_at session.old k) request.now }
+        + cost_completed session.old.session (member_at session.old k) request.now }
 {
     match request {
         Request::Edit { change } => edit(alloc, session, k, change, steps),
@@ -50,7 +49,7 @@ fn done<L: Ledger>(
         Request::Move { dir, by, keep } => move_caret(alloc, session, k, *dir, *by, *keep),
         Request::Undo => undo(session, k, steps),
         Request::Redo => redo(session, k, steps),
-        Request::Revoke { entry } => revoke(session, k, *entry, steps),
+        Request::Revoke { entry, live } => revoke(session, k, *entry, *live, steps),
         Request::Send => send(session, k),
         Request::Serve => serve(session, k),
         Request::Take => take(session, k, steps),
@@ -59,7 +58,7 @@ fn done<L: Ledger>(
     }
 }
 
-/// The answer of a site to a request that may change it, or its refusal. A refusal changes nothing.
+/// The answer of a site to a completed request that may change it, or its refusal. A refusal changes nothing.
 pub fn turn<L: Ledger>(
     alloc: Global,
     session: &mut Sites,
@@ -78,7 +77,7 @@ pub fn turn<L: Ledger>(
     ensures steps { OnOk result (
         steps.new
         ≤ steps.old
-        + cost_of_request session.old.session.committed (member_at session.old k) request.now) }
+        + cost_completed session.old.session (member_at session.old k) request.now) }
 {
     match done(alloc, session, k, request, steps) {
         Ok(answer) => Ok(answer),

@@ -5,12 +5,11 @@ ghost use Rattle.model_world.specs.Edits.{change_of};
 ghost use Rattle.model_world.specs.declared.edit_command.EditCommand.TheVariants as change;
 ghost use Rattle.model_world.specs.declared.edit_command.TextMarks.TheVariants.{Left};
 ghost use Rattle.model_world.specs.declared.command.Request.TheVariants as request;
-ghost use Rattle.model_world.specs.Cost.{cost_of_request};
 ghost use Rattle.ve_changes.specs.Drafts.{IsDrafted};
 ghost use Rattle.ve_changes.specs.Stops.{IsRefused};
 ghost use Rattle.ve_editor.specs.Page.{IsPage};
 ghost use Rattle.ve_offsets.specs.Docs.{page_items};
-ghost use Rattle.ve_session.specs.Asked.{IsAnswered, IsStopped};
+ghost use Rattle.ve_session.specs.Asked.{cost_completed, IsAnswered, IsStopped};
 ghost use Rattle.ve_session.specs.Turning.{MayTurn};
 ghost use Rattle.ve_sites.specs.Shared.{member_at, site_at, sites};
 
@@ -66,7 +65,7 @@ fn type_here<L: Ledger>(
     ensures steps { IfErr result (λ stop. stop ≢ ChangeStop.Memory)
         → steps.new
         ≤ steps.old
-        + cost_of_request session.old.session.committed (member_at session.old k) (
+        + cost_completed session.old.session (member_at session.old k) (
         request.TypeText text.now) }
 {
     layers_fit();
@@ -104,7 +103,7 @@ fn type_over<L: Ledger>(
     ensures steps { IfErr result (λ stop. stop ≢ ChangeStop.Memory)
         → steps.new
         ≤ steps.old
-        + cost_of_request session.old.session.committed (member_at session.old k) (
+        + cost_completed session.old.session (member_at session.old k) (
         request.TypeText text.now) }
 {
     let caret = match session.attempt(k, &Typing::new(alloc, text), steps) {
@@ -141,7 +140,7 @@ pub fn type_at<L: Ledger>(
     ensures steps { IfErr result (λ stop. stop ≢ ChangeStop.Memory)
         → steps.new
         ≤ steps.old
-        + cost_of_request session.old.session.committed (member_at session.old k) (
+        + cost_completed session.old.session (member_at session.old k) (
         request.TypeText text.now) }
 {
     let selection = session.site(k).editor().selection();

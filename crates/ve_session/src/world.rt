@@ -126,25 +126,25 @@ impl World {
     /// Answers a request to a site.
     fn ask<L: Ledger>(
         &mut self,
-        request: &Request,
+        request: Request,
         site: usize,
         out: &mut Bytes,
         steps: &mut Steps<L>,
     ) -> Result<(), Memory>
-        requires asked { IsAsked (Ask request.now site) }
+        requires asked { IsAsked (Ask request site) }
         ensures reply { OnOk result (
             out.new
             ≡ out.old
-            ++ reply_line (reply_and_world self.old.world (Ask request.now site)).0) }
+            ++ reply_line (reply_and_world self.old.world (Ask request site)).0) }
         ensures world { OnOk result (
             self.new ≡ record self.old {
-              world = (reply_and_world self.old.world (Ask request.now site)).1;
+              world = (reply_and_world self.old.world (Ask request site)).1;
             }) }
         ensures unsaid { OnErr result (out.new ≡ out.old) }
         ensures counted { steps.old ≤ steps.new }
         ensures cost { OnOk result (
             steps.new
-            ≤ steps.old + cost_of_command self.old.world (Ok (Ask request.now site))) }
+            ≤ steps.old + cost_of_command self.old.world (Ok (Ask request site))) }
     {
         let Some(page) = &mut self.page else {
             return refuse(self.alloc, Refusal::NotOpen, out);
@@ -176,7 +176,7 @@ impl World {
     {
         match command {
             Command::OpenPage { page, sites } => self.open(page, sites, out, steps),
-            Command::Ask { request, site } => self.ask(&request, site, out, steps),
+            Command::Ask { request, site } => self.ask(request, site, out, steps),
         }
     }
 

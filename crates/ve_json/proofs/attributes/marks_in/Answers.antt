@@ -6,6 +6,6 @@ use Rattle.ve_json.proofs.attributes.marks_in.Goals as goal
 pub loop-json-preserved : goal.loop-json-preserved
 loop-json-preserved c =
     let i = c.loop-json.json-index in
-    ap (λ l. read_on l mark_in (drop (i + 1) c.in_ok-list.list.now)) c.in_ok-push.ensures.ok
-    ∙ read_next c.loop-json.marks mark_in c.in_ok-list.list.now i c.json-item.result c.in_ok-mark.mark c.loop-json-test.true c.json-item.is c.in_ok-mark.ensures
+    ap (λ l. read_on l (mark_in c.args.exact) (drop (i + 1) c.in_ok-list.list.now)) c.in_ok-push.ensures.ok
+    ∙ read_next c.loop-json.marks (mark_in c.args.exact) c.in_ok-list.list.now i c.json-item.result c.in_ok-mark.mark c.loop-json-test.true c.json-item.is c.in_ok-mark.ensures
     ∙ c.loop-json.invariant

@@ -1,8 +1,8 @@
-use Rattle.std.proofs.Common.{ap, sym, ◌∙◌, ◌∷◌, ◌≡◌, ◌+◌, ◌-◌, ◌<◌, false, true, List, ℕ, subst, length, drop, arith}
+use Rattle.std.proofs.Common.{ap, sym, ◌∙◌, ◌∷◌, ◌≡◌, ◌+◌, ◌-◌, ◌<◌, List, subst, length, drop, arith}
 use Rattle.model_world.specs.Operations as operations
 use Rattle.ve_tx.specs.Noted.{HaveSameNames}
 use Rattle.ve_tx.proofs.FirstNamesLemmas.{rest_of}
-use Rattle.ve_json.specs.Settings.{names_set, may_follow_setting}
+use Rattle.ve_json.specs.Settings.{names_set}
 use Rattle.model_world.specs.declared.edit_command.OpWords.{OpWords}
 use Rattle.ve_json.proofs.SettingLemmas.{nothing_normal, misplaced_normal, normal_more, names_more}
 use Rattle.ve_json.proofs.operations.are_normal.Goals as goal

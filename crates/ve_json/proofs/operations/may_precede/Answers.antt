@@ -1,8 +1,8 @@
-use Rattle.std.proofs.Common.{ap, sym, ◌∙◌, ◌∷◌, ◌≡◌, false, true, List, ℕ, subst}
+use Rattle.std.proofs.Common.{ap, sym, ◌∙◌, ◌∷◌, subst}
 use Rattle.model_world.specs.Operations as operations
 use Rattle.ve_tx.specs.Noted.{HaveSameNames}
 use Rattle.ve_tx.proofs.NotedLemmas.{one_more_first}
-use Rattle.ve_json.specs.Settings.{names_set, may_follow_setting}
+use Rattle.ve_json.specs.Settings.{names_set}
 use Rattle.model_world.specs.declared.edit_command.OpWords.{OpWords}
 use Rattle.ve_json.proofs.SettingLemmas.{new_set, noted_set}
 use Rattle.ve_json.proofs.operations.may_precede.Goals as goal

@@ -6,4 +6,4 @@ use Rattle.ve_json.proofs.ListLemmas.{read_on}
 use Rattle.ve_json.proofs.operations.ops_in.Given as goal
 
 abbrev pub invariant-loop-json : goal.invariant-loop-json
-invariant-loop-json l = read_on l.ops op_in (drop l.json-index l.list) ≡ all_read op_in (map view l.list)
+invariant-loop-json l = read_on l.ops (op_in l.exact) (drop l.json-index l.list) ≡ all_read (op_in l.exact) (map view l.list)

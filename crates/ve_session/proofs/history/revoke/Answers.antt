@@ -10,7 +10,7 @@ returns-in-Ok-clause-steps g c =
     let same = c.seen-seen.ensures ∙ ap (λ (s : Site). s.seen) c.site.ensures in
     let known : c.args.entry < (site_at old c.args.k).seen = omega (arith, same, c.if-entry-seen.false) in
     let counted = c.revoke.ensures.steps in
-    let within = revoke_within old.session.committed (member_at old c.args.k) c.args.entry (lt-ltb _ _ known) in omega (arith, counted, within)
+    let within = revoke_within old.session (member_at old c.args.k) c.args.entry c.args.live (lt-ltb _ _ known) in omega (arith, counted, within)
 
 pub returns-in-Err-clause-steps : goal.returns-in-Err-clause-steps
 returns-in-Err-clause-steps g c =
@@ -18,4 +18,4 @@ returns-in-Err-clause-steps g c =
     let same = c.seen-seen.ensures ∙ ap (λ (s : Site). s.seen) c.site.ensures in
     let known : c.args.entry < (site_at old c.args.k).seen = omega (arith, same, c.if-entry-seen.false) in
     let counted = c.revoke.ensures.steps in
-    let within = revoke_within old.session.committed (member_at old c.args.k) c.args.entry (lt-ltb _ _ known) in omega (arith, counted, within)
+    let within = revoke_within old.session (member_at old c.args.k) c.args.entry c.args.live (lt-ltb _ _ known) in omega (arith, counted, within)

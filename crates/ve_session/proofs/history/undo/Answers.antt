@@ -7,10 +7,10 @@ pub returns-in-Ok-clause-steps : goal.returns-in-Ok-clause-steps
 returns-in-Ok-clause-steps g c =
     let old = c.args.session.now in
     let counted = c.undo.ensures.steps in
-    let within = undo_within old.session.committed (member_at old c.args.k) in omega (arith, counted, within)
+    let within = undo_within old.session (member_at old c.args.k) in omega (arith, counted, within)
 
 pub returns-in-Err-clause-steps : goal.returns-in-Err-clause-steps
 returns-in-Err-clause-steps g c =
     let old = c.args.session.now in
     let counted = c.undo.ensures.steps in
-    let within = undo_within old.session.committed (member_at old c.args.k) in omega (arith, counted, within)
+    let within = undo_within old.session (member_at old c.args.k) in omega (arith, counted, within)

@@ -7,10 +7,10 @@ pub returns-clause-steps : goal.returns-clause-steps
 returns-clause-steps g c =
     let old = c.args.session.now in
     let counted = c.take.ensures.steps in
-    let within = take_within old.session.committed (member_at old c.args.k) in omega (arith, counted, within)
+    let within = take_within old.session (member_at old c.args.k) in omega (arith, counted, within)
 
 pub returns-in_err-taken-clause-steps : goal.returns-in_err-taken-clause-steps
 returns-in_err-taken-clause-steps g c =
     let old = c.args.session.now in
     let counted = c.take.ensures.steps in
-    let within = take_within old.session.committed (member_at old c.args.k) in omega (arith, counted, within)
+    let within = take_within old.session (member_at old c.args.k) in omega (arith, counted, within)

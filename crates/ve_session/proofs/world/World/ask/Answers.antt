@@ -17,7 +17,7 @@ pub returns-then-site-sites-clause-reply : goal.returns-then-site-sites-clause-r
 returns-then-site-sites-clause-reply g c =
     let p = c.in-Some.page in
     let k = c.args.site in
-    let r = c.args.request.now in
+    let r = c.args.request in
     let past : length p.session.members ≤ k = omega (arith, c.sites-sites.ensures, c.if-site-sites.true) in
     let world : world_on p ≡ c.args.self.now.world = sym (ap world_of c.in-Some.is) ∙ ap (λ (s : State). s.world) c.self.view_is in
     let told = ap (λ n. No (BadSite n)) c.sites-sites.ensures ∙ sym (ap (λ (x : Reply × World). x.0) (bad_site p k r past)) ∙ ap (λ (w : World). (reply_and_world w (Ask r k)).0) world in
@@ -27,7 +27,7 @@ pub returns-then-site-sites-clause-world : goal.returns-then-site-sites-clause-w
 returns-then-site-sites-clause-world g c =
     let p = c.in-Some.page in
     let k = c.args.site in
-    let r = c.args.request.now in
+    let r = c.args.request in
     let past : length p.session.members ≤ k = omega (arith, c.sites-sites.ensures, c.if-site-sites.true) in
     let world : world_on p ≡ c.args.self.now.world = sym (ap world_of c.in-Some.is) ∙ ap (λ (s : State). s.world) c.self.view_is in
     always _ c.refuse-then-site-sites.result
