@@ -102,7 +102,7 @@ addEventListener("beforeprint", () => editor.view.drawAll());
 navigator.serviceWorker?.register("offline.js").then(async () => {
   const { active } = await navigator.serviceWorker.ready;
   const files = performance.getEntriesByType("resource").map(({ name }) => name).filter((name) => /\.(js|css|wasm)$/.test(name));
-  active.postMessage([location.pathname, page, ...files]);
+  active.postMessage([location.pathname, ...files]);
 });
 
 // for the console, and for the check
