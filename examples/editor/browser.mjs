@@ -84,6 +84,7 @@ export class Browser {
       "--disable-renderer-backgrounding", "--disable-backgrounding-occluded-windows", ...(process.getuid() ? [] : ["--no-sandbox"]),
       "about:blank"];
     this.#process = spawn(path, words, { stdio: ["ignore", "ignore", "pipe"] });
+    process.once("exit", () => this.#process.kill("SIGKILL"));
     const address = await soon("Chromium", new Promise((tell, fail) => {
       let said = "";
       this.#process.stderr.setEncoding("utf8").on("data", (piece) => {

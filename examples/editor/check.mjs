@@ -30,6 +30,7 @@ const SCRIPTS = `<script>hacked = 1</script>
 // two, so that both ways can be gone at once: each has a clipboard of its own
 const [browser, other] = await Promise.all([Browser.start(chromium), Browser.start(chromium)]);
 let failed = 0;
+const OF_LINES = new Set(["typing", "selecting", "carrying", "moving", "undo"]);
 
 async function check(name, act) {
   const begin = performance.now();
@@ -37,7 +38,7 @@ async function check(name, act) {
     await act();
   } catch (error) {
     failed++;
-    console.error(`${name}: ${error.stack}`);
+    console.error(`${name}: ${error.message}\n${error.stack}`);
   }
   if (process.env.VERBOSE) console.log(`${(performance.now() - begin).toFixed().padStart(6)} ms  ${name}`);
 }
@@ -79,8 +80,9 @@ async function visit(browser, url, act) {
   }
 }
 
-async function checkSingle(way, browser, start) {
-  const all = [...single.cases, ...single.boxes, ...(isWhole ? whole.cases : [])];
+// The cases of one window. Without a server those are left out that go by nothing of it.
+async function checkSingle(way, browser, start, isAll) {
+  const all = [...single.cases, ...(isWhole ? whole.cases : []), ...single.boxes].filter(({ part }) => isAll || OF_LINES.has(part));
   const server = await start(all.map(({ page }) => page));
   for (const [k, { name, steps, wanted }] of all.entries()) {
     await check(`${way}: ${name}`, () => visit(browser, server.of(k), async (ada) => {
@@ -135,7 +137,7 @@ async function checkServer() {
   await server.close();
 }
 
-async function checkPictures() {
+async function checkPictures(browser) {
   const gallery = await pictures.gallery();
   for (const words of [[], ["--pictures", gallery.origin]]) {
     const server = await withServer([gallery.page], ...words);
@@ -172,7 +174,7 @@ async function checkAhead() {
   await check("sessions ahead of the log", () => ahead.check(to, World, module));
 }
 
-async function checkJoining() {
+async function checkJoining(browser) {
   const files = await withoutServer([joining.page]);
   const again = (port) => serve(program, "--port", String(port), ...written([joining.page]));
   await check("joining: alone, and later not", async () => {
@@ -181,14 +183,18 @@ async function checkJoining() {
   });
 }
 
+async function checkBeside() {
+  await checkSingle("without one", other, withoutServer, false);
+  await checkJoining(other);
+  await checkPictures(other);
+  await checkAhead();
+  await other.close();
+}
+
 const isWhole = await knowsWhole();
-await Promise.all([checkSingle("with a server", browser, withServer), checkSingle("without one", other, withoutServer)]);
-await other.close();
-await checkAhead();
-await checkJoining();
+await Promise.all([checkSingle("with a server", browser, withServer, true), checkBeside()]);
 await checkCompany();
 await checkServer();
-await checkPictures();
 if (isWhole) await checkWhole();
 await browser.close();
 rmSync(folder, { recursive: true });

@@ -73,6 +73,9 @@ export async function press(person, name) {
   await idle(person);
 }
 
+/** The browser has the editor's files, so that it opens without a server. */
+export const filesKept = (person) => until("the files are kept", () => person.value("caches.match('vemodel/vemodel.wasm').then(Boolean)"));
+
 /** Chooses a word of a menu of the toolbar. */
 export async function choose(person, menu, word) {
   await person.value(`(() => {

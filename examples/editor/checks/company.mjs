@@ -1,7 +1,7 @@
 // Two windows on one page, one after the other and at once.
 import assert from "node:assert/strict";
 import { until } from "../browser.mjs";
-import { choose, clickAfter, clickOn, dragOver, html, keys, meet, notice, paste, press, shared, state } from "../person.mjs";
+import { choose, clickAfter, clickOn, dragOver, filesKept, html, keys, meet, notice, paste, press, shared, state } from "../person.mjs";
 
 const holds = (person, text) => until(`the page holds ${text}`, async () => (await html(person)).includes(text));
 const count = (page, letter) => page.split(letter).length - 1;
@@ -82,6 +82,7 @@ export async function dropped(ada, ben) {
 
 /** A window that lost its connection shows so, and sends what was typed when it is back. */
 export async function away(ada, ben) {
+  await filesKept(ada);
   await meet(ada, ben);
   await clickAfter(ada, "Select some");
   await ada.offline(true);

@@ -1,12 +1,12 @@
 // Windows without a server: alone, cut off, loaded again, and joined later.
 import assert from "node:assert/strict";
 import { until } from "../browser.mjs";
-import { clickAfter, html, keys, meet, state } from "../person.mjs";
+import { clickAfter, filesKept, html, keys, meet, state } from "../person.mjs";
 
 export const page = "<h1>On cats</h1><p>They sit.</p>";
 
 const isIn = (person, wanted) => until(`the state is ${wanted}`, async () => (await state(person)).startsWith(wanted));
-export const ALONE = "No server", AWAY = "The server isn't there", SHARED = "";
+const ALONE = "No server", AWAY = "The server isn't there", SHARED = "";
 
 /** A window that never met a server keeps what is typed, and joins the first server that has the page. */
 export async function alone(browser, files, serve) {
@@ -18,7 +18,7 @@ export async function alone(browser, files, serve) {
   await ada.type("More");
   await ada.reload();
   assert.equal(await html(ada), "<h1>On cats, alone</h1><p>More</p><p>They sit.</p>");
-  await until("the files are kept", () => ada.value("caches.match('vemodel/vemodel.wasm').then(Boolean)"));
+  await filesKept(ada);
   await files.close();
   await ada.reload();
   await clickAfter(ada, "More");

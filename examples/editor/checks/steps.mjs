@@ -53,4 +53,4 @@ export async function run(person, steps) {
 
 /** Tables by their parts, as one list of cases. */
 export const casesOf = (parts) => Object.entries(parts)
-  .flatMap(([part, list]) => list.map(([name, page, steps, wanted]) => ({ name: `${part}: ${name}`, page, steps, wanted })));
+  .flatMap(([part, list]) => list.map(([name, page, steps, wanted]) => ({ part, name: `${part}: ${name}`, page, steps, wanted })));

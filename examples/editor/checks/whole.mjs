@@ -37,7 +37,7 @@ const moving = [
   ["a block by its handle", "<h2 class='x'>one</h2><p id='y'>two</p><p>three</p>", [["block", "one", "two"]],
     "<p id='y'>two</p><h2 class='x'>one</h2><p>three</p>"],
   ["an item by its handle", "<ul class='x'><li id='a'>one</li><li>two</li></ul>", [["block", "one", "two"]],
-    "<ul class='x'><li>two</li><li id='a'>one</li></ul>"],
+    `<ul class="x"><li>two</li><li id='a'>one</li></ul>`],
   ["a block by a key", "<h2 class='x'>one</h2><p id='y'>two</p>", [["click", "two"], ["keys", "alt+ArrowUp"], ["type", "!"]],
     `<p id="y">two!</p><h2 class='x'>one</h2>`],
 ];

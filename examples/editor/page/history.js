@@ -75,11 +75,11 @@ export class History {
 // What was taken back is sure to count no more where nothing else was on its way then; so a window that is in touch waits for that.
 function wayBack({ edits, again }, session) {
   if (again) return { lines: Array(again).fill({ do: "redo" }) };
+  if (session.isInTouch && session.isPending) return LATER;
   if (session.areUnsent(edits)) {
     const count = edits.flatMap(({ lines }) => lines.filter(makesChange)).length;
     return { lines: Array(count).fill({ do: "undo" }), again: count };
   }
-  if (session.isInTouch && session.isPending) return LATER;
   if (!edits.every(isNumbered)) return "This is on its way to the server, and can be undone when it has come back";
   return { lines: numbersOf(edits).reverse().map((entry) => ({ do: "revoke", entry, live: true })) };
 }

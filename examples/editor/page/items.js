@@ -2,7 +2,7 @@
 import { scalars, units } from "./scalars.js";
 
 const isRun = (item) => typeof item === "string" || Array.isArray(item);
-export const textOf = (item) => (Array.isArray(item) ? item[0] : item);
+const textOf = (item) => (Array.isArray(item) ? item[0] : item);
 /** @type {(item: Item) => number} */
 export const sizeOf = (item) => (isRun(item) ? scalars(textOf(item)) : 1);
 
@@ -37,13 +37,6 @@ export class Reader {
     }
     return out;
   }
-}
-
-/** The items of a range. */
-export function sliced(items, from, to) {
-  const reader = new Reader(items);
-  reader.take(from);
-  return reader.take(to - from);
 }
 
 /**

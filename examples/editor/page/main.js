@@ -96,11 +96,13 @@ listenToClipboard(host, editor);
 listenToGrip(find("main"), host, editor);
 log.open();
 
+addEventListener("beforeprint", () => editor.view.drawAll());
+
 // The files that this page is made of are kept by the browser, so that it opens where no server is.
 navigator.serviceWorker?.register("offline.js").then(async () => {
   const { active } = await navigator.serviceWorker.ready;
   const files = performance.getEntriesByType("resource").map(({ name }) => name).filter((name) => /\.(js|css|wasm)$/.test(name));
-  active.postMessage([location.pathname, page, ...files]);
+  active.postMessage([location.pathname, ...files]);
 });
 
 // for the console, and for the check

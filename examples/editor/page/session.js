@@ -1,7 +1,8 @@
 // A window's site, in a copy of the world that is the page's own. Whoever edits the page writes lines into one log, and a copy is what the
 // log makes of it. The site's own lines are done at once, ahead of the log: lines of two sites change places without a change of any reply
-// or of the world, unless both serve or take. So `serve` alone, whose order decides, is done when the log brings it; and `take` takes what
-// the log has brought, which stands in its queue before all that is still to come.
+// or of the world, unless both serve or take. Two more exchanges rest on what the lines read, and aren't part of that law. An own `serve`,
+// whose order among others' decides, is done when the log brings it: it reads the server and the queues, and not what the site does meanwhile.
+// And a `take` takes what the log has brought: it reads the front of its queue, and others' lines add at the back.
 import { holes } from "./holes.js";
 import { COMMANDS } from "./vemodel/table.js";
 

@@ -5,7 +5,7 @@ import { around, endOf, innermost, isContent, parse, shown, startOf } from "./tr
 
 const tableAt = (root, at) => around(innermost(root, at), (node) => node.kind === "table");
 /** @type {(root: TreeNode, selection: Selected) => TreeNode | null} */
-export const cellAt = (root, selection) => around(innermost(root, ends(selection)[0]), isPlain);
+const cellAt = (root, selection) => around(innermost(root, ends(selection)[0]), isPlain);
 
 const cell = [{ open: "td" }, { open: "p" }, { close: "p" }, { close: "td" }];
 const row = [{ open: "tr" }, ...cell, ...cell, ...cell, { close: "tr" }];

@@ -100,7 +100,7 @@ export class View {
     return this.#later.nodesOf(dom);
   }
 
-  /** Draws all that wasn't drawn yet. */
+  /** Draws all that wasn't drawn yet, as for printing, or to compare it. */
   drawAll() {
     const host = this.#pairs.domOf(this.#root);
     for (let shells; (shells = host.querySelectorAll(".later")).length; ) shells.forEach((shell) => this.#later.draw(shell));
