@@ -8,7 +8,7 @@ trap 'rm -rf "$work"' EXIT
 
 # Its own launcher, on an empty script, sees to it that the program which was built here or the release is of these sources.
 "$top/bin/vemodel" run </dev/null || exit 1
-is_built || program=$release
+program=$(taken program) || exit 1
 
 # A page of so many paragraphs of ten characters, as the line that opens it.
 open_line() {

@@ -86,7 +86,7 @@ def wrap(page: Page) -> Line:
 def apply(page: Page) -> Line:
     at, gone = page.offset(), page.random.randint(0, 2)
     rest = len(page.items) - at - gone
-    put = {"remove": gone, "insert": [page.random.choice(TEXTS), ["m", [["b", []]]]]}
+    put: Line = {"remove": gone, "insert": [page.random.choice(TEXTS), ["m", [["b", []]]]]}
     return {"ops": [it for it in ({"retain": at}, put, {"retain": rest}) if it.get("retain", 1) > 0]}
 
 

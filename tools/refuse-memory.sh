@@ -41,8 +41,7 @@ cp "$top/examples/first.jsonl" "$work/first"
 [ -n "${PROGRAM:-}" ] || "$top/bin/vemodel" run </dev/null
 # shellcheck source=tools/sources.sh
 . "$top/tools/sources.sh"
-if is_built; then run=$program; else run=$release; fi
-[ -n "${PROGRAM:-}" ] && run=$PROGRAM
+run=${PROGRAM:-$(taken program)}
 
 for script in first references sites; do
     "$run" run <"$work/$script" >"$work/whole"

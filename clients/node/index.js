@@ -1,211 +1,45 @@
-// A client of vemodel: it drives the program through two pipes. Lines may be sent ahead; each gets a promise, and they are answered in
-// their order. The types, and what each method does, are in index.d.ts.
-import { spawn } from "node:child_process";
+// A client of vemodel for Node: the core runs in this process, as a module, or as a program of its own. Lines may be sent ahead; each gets
+// a promise, and they are answered in their order. The types, and what each method does, are in index.d.ts.
 import { existsSync } from "node:fs";
 import { fileURLToPath } from "node:url";
+import { Queue } from "../web/queue.js";
+import { Runner } from "../web/runner.js";
+import { PACKED, compile } from "./module.js";
+import { Program } from "./program.js";
 
-const NEWLINE = 10;
+export { Ended, Refused } from "../web/errors.js";
+export { World } from "../web/world.js";
+export { compile } from "./module.js";
 
-// What each exit status of the program says.
-const STATUSES = {
-  0: "it had read all its lines",
-  1: "it could not be built; standard error says why",
-  2: "it doesn't know its words",
-  3: "its input failed",
-  4: "its output failed",
-  5: "its lines had more than 67,108,864 bytes together",
-  6: "there was no memory",
-};
+export class Core extends Queue {
+  constructor(options = {}) {
+    const { program, module } = chosen(typeof options === "string" ? { program: options } : options);
+    super((told) => (program ? new Program(program, told) : new Runner(compile(module), told)));
+  }
 
-export class Refused extends Error {
-  name = "Refused";
-
-  constructor(refusal) {
-    super(refusal);
-    const parts = refusal.split(" ");
-    this.words = parts.filter((it) => !isNumber(it));
-    this.numbers = parts.filter(isNumber).map(Number);
-    this.word = this.words[0];
+  static async start(options) {
+    const core = new Core(options);
+    await core.line(""); // is refused, and so changes nothing
+    return core;
   }
 }
 
-export class Ended extends Error {
-  name = "Ended";
-
-  constructor(status, signal) {
-    const how = signal ? `by ${signal}` : `with status ${status}: ${STATUSES[status] ?? "not a status of this program"}`;
-    super(`the core ended ${how}`);
-    this.status = status;
-    this.signal = signal;
-  }
+// What is given; else what the environment names; else the module of the package, or the program of the repository, round this file.
+function chosen({ program, module }) {
+  if (program && module) throw new TypeError("a core is over a program or over a module");
+  if (program) return { program: program === true ? ownProgram() : program };
+  if (module) return { module };
+  const { VEMODEL, VEMODEL_MODULE } = process.env;
+  if (VEMODEL) return { program: VEMODEL };
+  if (VEMODEL_MODULE) return { module: VEMODEL_MODULE };
+  return existsSync(PACKED) ? { module: PACKED } : { program: ownProgram() };
 }
 
-export class Core {
-  #run;
-  #sent = 0;
-  #answered = 0;
-  #waiting = new Map(); // by the number of the line
-  #parts = []; // of the reply that is coming
-  #failure; // why no line is answered any more
-  #ended;
-
-  constructor(program = find()) {
-    this.#run = spawn(program, ["run"], { stdio: ["pipe", "pipe", "inherit"] });
-    this.#run.stdout.on("data", (bytes) => this.#read(bytes));
-    this.#run.stdin.on("error", () => {}); // it ended, which "close" tells with its status
-    this.#run.on("error", (error) => this.#fail(error)); // it can't be started
-    this.#ended = new Promise((resolve) => {
-      this.#run.on("close", (status, signal) => {
-        this.#fail(new Ended(status, signal));
-        resolve(status);
-      });
-    });
-  }
-
-  async line(line) {
-    if (line.includes("\n")) throw new RangeError("a line holds no newline: in JSON it is written \\n");
-    if (!line.isWellFormed()) throw new RangeError("a line holds no half of a surrogate pair");
-    if (this.#failure) throw this.#failure;
-    return new Promise((resolve, reject) => {
-      this.#waiting.set(this.#sent++, { resolve, reject });
-      this.#run.stdin.write(line + "\n");
-    });
-  }
-
-  async ask(command) {
-    const reply = await this.line(JSON.stringify(command));
-    if (reply.startsWith("no ")) throw new Refused(reply.slice(3));
-    return (READ[command.do] ?? Number)(reply.slice(3));
-  }
-
-  close() {
-    this.#run.stdin.end();
-    return this.#ended;
-  }
-
-  // Replies end at newlines alone: a text in them may hold any other sign that ends a line elsewhere.
-  #read(bytes) {
-    let from = 0;
-    for (let at; (at = bytes.indexOf(NEWLINE, from)) >= 0; from = at + 1) {
-      const reply = Buffer.concat([...this.#parts, bytes.subarray(from, at)]).toString();
-      this.#parts = [];
-      this.#waiting.get(this.#answered)?.resolve(reply);
-      this.#waiting.delete(this.#answered++);
-    }
-    if (from < bytes.length) this.#parts.push(bytes.subarray(from));
-  }
-
-  #fail(error) {
-    this.#failure ??= error;
-    for (const { reject } of this.#waiting.values()) reject(this.#failure);
-    this.#waiting.clear();
-  }
-}
-
-// The commands, each a method that takes these members as one object. The program ignores a member that a command doesn't have, so one
-// that is misspelled is refused here.
-const COMMANDS = {
-  open: "page sites",
-  html: "site",
-  data: "from to site",
-  tree: "site",
-  at: "at site",
-  near: "at dir site",
-  refs: "site",
-  caret: "site",
-  changes: "site",
-  text: "at text marks site",
-  remove: "from to site",
-  split: "at depth site",
-  mark: "from to tag attrs site",
-  unmark: "from to tag attrs site",
-  wrap: "from to unwrap_outer wrap_outer unwrap_each wrap_each site",
-  convert: "at kind site",
-  attr: "at name to site",
-  insert: "at html site",
-  apply: "ops site",
-  batch: "cmds site",
-  row_in: "at row site",
-  row_out: "at row site",
-  col_in: "at column site",
-  col_out: "at column site",
-  grid: "at site",
-  indent: "at site",
-  outdent: "at site",
-  undo: "site",
-  redo: "site",
-  select: "anchor focus site",
-  move: "dir by keep site",
-  type: "text site",
-  erase: "dir by site",
-  send: "site",
-  serve: "site",
-  take: "site",
-  revoke: "entry site",
-};
-for (const [name, words] of Object.entries(COMMANDS)) {
-  const known = words.split(" ");
-  Core.prototype[name] = async function (members) {
-    const unknown = Object.keys(members ?? {}).find((it) => !known.includes(it));
-    if (unknown !== undefined) throw new TypeError(`${name} has no member ${unknown}: it has ${known.join(", ")}`);
-    return this.ask({ do: name, ...members });
-  };
-}
-
-// How the replies are read that are no single number.
-const READ = {
-  html: JSON.parse,
-  data: JSON.parse,
-  tree: readTree,
-  at(reply) {
-    const [kind, begin, end, state] = reply.split(" ");
-    return { kind, begin: Number(begin), end: Number(end), state };
-  },
-  refs: (reply) =>
-    JSON.parse(reply).map(([place, group, key, number, carrier, body]) => ({ place, group, key, number, carrier, body })),
-  grid(reply) {
-    const [rows, columns, cells] = reply.split(" ");
-    return { rows: Number(rows), columns: Number(columns), cells: JSON.parse(cells).map(readCell) };
-  },
-  changes(reply) {
-    const [length, patches] = reply.split(" ");
-    return { length: Number(length), patches: JSON.parse(patches).map(([at, removed, inserted]) => ({ at, removed, inserted })) };
-  },
-  caret: readSelection,
-  select: readSelection,
-  move: readSelection,
-  serve(reply) {
-    const [accepted, of, a, b, c, d] = reply.split(" ").filter(isNumber).map(Number);
-    return { accepted, of, conflict: a === undefined ? null : [[a, b], [c, d]] };
-  },
-  take(reply) {
-    const [first, dropped] = reply.split(" ").filter(isNumber).map(Number);
-    return reply.startsWith("ack") ? { accepted: first } : { foreign: first, dropped };
-  },
-};
-
-function readSelection(reply) {
-  const [anchor, focus] = reply.split(" ").map(Number);
-  return { anchor, focus };
-}
-
-function readCell([place, row, column, rows, columns]) {
-  return { place, row, column, rows, columns };
-}
-
-// `(p 2)` is ["p", 2].
-function readTree(reply) {
-  return JSON.parse(reply.replace(/[a-z]\w*/g, '"$&"').replaceAll(" ", ",").replaceAll("(", "[").replaceAll(")", "]"));
-}
-
-function isNumber(word) {
-  return /^\d+$/.test(word);
-}
-
-// The program that VEMODEL names, or else bin/vemodel of the repository round this file.
-function find() {
-  if (process.env.VEMODEL) return process.env.VEMODEL;
-  const here = fileURLToPath(new URL("../../bin/vemodel", import.meta.url));
-  if (existsSync(here)) return here;
-  throw new Error("no vemodel: give the program's path, or set VEMODEL to it");
+// The package's program for this machine, or bin/vemodel of the repository.
+function ownProgram() {
+  const machine = { x64: "x86_64", arm64: "aarch64" }[process.arch];
+  const places = [`../native/vemodel-${machine}-${process.platform}`, "../../bin/vemodel"];
+  const found = places.map((it) => fileURLToPath(new URL(it, import.meta.url))).find((it) => existsSync(it));
+  if (!found) throw new Error("no vemodel for this machine: give the program's path or the module's, or set VEMODEL to it");
+  return found;
 }

@@ -1,9 +1,10 @@
 // Headless Chromium by the DevTools protocol: windows, real keys and the mouse. Node's own WebSocket is all that it needs. And the
 // server, as the check and the measurements start it.
 import { spawn } from "node:child_process";
-import { mkdtempSync, rmSync } from "node:fs";
+import { existsSync, mkdtempSync, readFileSync, rmSync } from "node:fs";
+import { createServer } from "node:http";
 import { tmpdir } from "node:os";
-import { join } from "node:path";
+import { extname, join } from "node:path";
 import { fileURLToPath } from "node:url";
 
 const PATIENCE = 15_000; // milliseconds; a loaded machine is slow, and one that fails is worth waiting for
@@ -26,19 +27,43 @@ async function soon(what, promise) {
   return Promise.race([promise, patience]).finally(() => clearTimeout(late));
 }
 
-// The server on these pages, at a port that is free. It has a page's address in `url`.
-export async function serve(program, ...files) {
-  const words = [fileURLToPath(new URL("server.mjs", import.meta.url)), "--port", "0", "--program", program, ...files];
+// The server with these words, which are pages and more, at a port that is free if they name none. It has its first page's address in `url`.
+export async function serve(program, ...rest) {
+  const words = [fileURLToPath(new URL("server.mjs", import.meta.url)), "--port", "0", "--program", program, ...rest];
   const server = spawn(process.execPath, words, { stdio: ["ignore", "pipe", "inherit"] });
   const url = await soon("the server", new Promise((tell, fail) => {
     server.stdout.setEncoding("utf8").once("data", (said) => tell(said.split("\n")[0]));
     server.once("exit", () => fail(new Error("the server ended")));
   }));
-  return { url, close: () => server.kill() };
+  const ended = new Promise((end) => server.once("exit", end));
+  process.once("exit", () => server.kill());
+  return { url, close: () => (server.kill(), ended) };
 }
 
-const CTRL = 2, SHIFT = 8;
-const KEYS = { Enter: 13, Backspace: 8, Tab: 9, Escape: 27, End: 35, Home: 36, ArrowLeft: 37, ArrowUp: 38, ArrowRight: 39, ArrowDown: 40, Delete: 46 };
+function closed(server) {
+  const end = new Promise((tell) => server.close(tell));
+  server.closeAllConnections();
+  return end;
+}
+
+const TYPES = { ".html": "text/html", ".js": "text/javascript", ".css": "text/css", ".wasm": "application/wasm" };
+
+// Any web server: the files of a folder, and nothing else.
+export async function serveFiles(folder) {
+  const server = createServer((request, answer) => {
+    const { pathname } = new URL(request.url, "http://localhost");
+    const path = join(folder, pathname === "/" ? "index.html" : pathname);
+    if (!existsSync(path)) return answer.writeHead(404).end();
+    return answer.writeHead(200, { "content-type": TYPES[extname(path)] ?? "text/plain" }).end(readFileSync(path));
+  });
+  await new Promise((listening) => server.listen(0, "127.0.0.1", listening));
+  const { port } = server.address();
+  return { port, url: `http://127.0.0.1:${port}/`, close: () => closed(server) };
+}
+
+const ALT = 1, CTRL = 2, SHIFT = 8;
+const KEYS = { Enter: 13, Backspace: 8, Tab: 9, Escape: 27, End: 35, Home: 36, ArrowLeft: 37, ArrowUp: 38, ArrowRight: 39, ArrowDown: 40,
+  Delete: 46 };
 
 export class Browser {
   #process;
@@ -56,7 +81,8 @@ export class Browser {
   async #launch(path) {
     const words = ["--headless=new", "--disable-gpu", "--remote-debugging-port=0", `--user-data-dir=${this.#folder}`, "--no-first-run",
       "--disable-extensions", "--disable-background-networking", "--disable-dev-shm-usage", "--window-size=1000,820",
-      "--disable-renderer-backgrounding", "--disable-backgrounding-occluded-windows", ...(process.getuid() ? [] : ["--no-sandbox"]), "about:blank"];
+      "--disable-renderer-backgrounding", "--disable-backgrounding-occluded-windows", ...(process.getuid() ? [] : ["--no-sandbox"]),
+      "about:blank"];
     this.#process = spawn(path, words, { stdio: ["ignore", "ignore", "pipe"] });
     const address = await soon("Chromium", new Promise((tell, fail) => {
       let said = "";
@@ -96,7 +122,7 @@ export class Browser {
   // A window of the editor, once it is ready.
   async edit(url) {
     const window = await this.open(url);
-    await until("the editor is ready", () => window.value("document.documentElement?.dataset.ready"));
+    await window.ready();
     return window;
   }
 
@@ -106,7 +132,8 @@ export class Browser {
     const sheet = await this.open("about:blank");
     const width = 1600, height = 595;
     await sheet.call("Emulation.setDeviceMetricsOverride", { width, height, deviceScaleFactor: 1, mobile: false });
-    const images = pictures.map((png) => `<img width="${width / windows.length - 15}" src="data:image/png;base64,${png.toString("base64")}">`);
+    const each = width / windows.length - 15;
+    const images = pictures.map((png) => `<img width="${each}" src="data:image/png;base64,${png.toString("base64")}">`);
     await sheet.value(`document.body.style = "margin:10px;display:flex;gap:10px;align-items:flex-start;background:#cbd2dc";
       document.body.innerHTML = ${JSON.stringify(images.join(""))};
       Promise.all([...document.images].map((image) => image.decode())).then(() => true)`);
@@ -144,13 +171,29 @@ class Window {
     return result.value;
   }
 
-  // A key by its name, with what is held down: "Enter", "ctrl+b", "shift+ArrowLeft".
-  async key(name) {
+  ready() {
+    return until("the editor is ready", () => this.value("document.documentElement?.dataset.ready"));
+  }
+
+  async go(url) {
+    await this.call("Page.navigate", { url });
+    await this.ready();
+  }
+
+  async reload() {
+    await this.value("delete document.documentElement.dataset.ready; location.reload()");
+    await this.ready();
+  }
+
+  // A key by its name, with what is held down: "Enter", "ctrl+b", "shift+ArrowLeft". The protocol wants to be told what a key of the
+  // browser's own does, as copy or selectAll.
+  async key(name, command = undefined) {
     const held = name.split("+").slice(0, -1), key = name.split("+").at(-1);
-    const modifiers = (held.includes("ctrl") ? CTRL : 0) | (held.includes("shift") ? SHIFT : 0);
+    const modifiers = (held.includes("alt") ? ALT : 0) | (held.includes("ctrl") ? CTRL : 0) | (held.includes("shift") ? SHIFT : 0);
     const code = key.length === 1 ? `Key${key.toUpperCase()}` : key;
     const windowsVirtualKeyCode = KEYS[key] ?? key.toUpperCase().charCodeAt(0);
-    await this.#press({ key, code, windowsVirtualKeyCode, modifiers, text: key === "Enter" ? "\r" : undefined });
+    const commands = command && [command];
+    await this.#press({ key, code, windowsVirtualKeyCode, modifiers, text: key === "Enter" ? "\r" : undefined, commands });
   }
 
   // Events are sent ahead; the browser takes them in their order.
@@ -161,11 +204,6 @@ class Window {
     ]);
   }
 
-  // The key by which a browser pastes; the protocol wants to be told what it does.
-  paste() {
-    return this.#press({ key: "v", code: "KeyV", windowsVirtualKeyCode: 86, modifiers: CTRL, commands: ["paste"] });
-  }
-
   type(text) {
     return Promise.all([...text].map((char) => {
       const windowsVirtualKeyCode = /[a-z0-9 ]/i.test(char) ? char.toUpperCase().charCodeAt(0) : 0;
@@ -173,17 +211,45 @@ class Window {
     }));
   }
 
-  #mouse(type, [x, y]) {
-    return this.call("Input.dispatchMouseEvent", { type, x, y, button: "left", buttons: 1, clickCount: 1 });
+  // An input method that composes these texts in turn, and chooses the last one. `over` is how many letters before the caret it takes over.
+  async compose(texts, over = 0) {
+    const caret = await this.value("getSelection().focusOffset");
+    const place = over ? { replacementStart: caret - over, replacementEnd: caret } : {};
+    for (const text of texts) {
+      await this.call("Input.imeSetComposition", { text, selectionStart: text.length, selectionEnd: text.length, ...place });
+    }
+    await this.call("Input.insertText", { text: texts.at(-1) });
   }
 
-  click(at) {
-    return Promise.all([this.#mouse("mousePressed", at), this.#mouse("mouseReleased", at)]);
+  #mouse(type, [x, y], clickCount = 1) {
+    return this.call("Input.dispatchMouseEvent", { type, x, y, button: "left", buttons: 1, clickCount });
+  }
+
+  // So many clicks at one place.
+  async click(at, times = 1) {
+    for (let count = 1; count <= times; count++) {
+      await Promise.all([this.#mouse("mousePressed", at, count), this.#mouse("mouseReleased", at, count)]);
+    }
+  }
+
+  move(to) {
+    return this.call("Input.dispatchMouseEvent", { type: "mouseMoved", x: to[0], y: to[1], button: "none", buttons: 0 });
   }
 
   // From one place to another with the button held down.
-  drag(from, to) {
-    return Promise.all([this.#mouse("mousePressed", from), this.#mouse("mouseMoved", to), this.#mouse("mouseReleased", to)]);
+  async drag(from, to, steps = 1) {
+    await this.#mouse("mousePressed", from);
+    for (let step = 1; step <= steps; step++) {
+      const at = [0, 1].map((k) => from[k] + ((to[k] - from[k]) * step) / steps);
+      await this.#mouse("mouseMoved", at);
+    }
+    await this.#mouse("mouseReleased", to);
+  }
+
+  // Cuts the network off, or joins it again.
+  async offline(is) {
+    await this.call("Network.enable");
+    await this.call("Network.emulateNetworkConditions", { offline: is, latency: 0, downloadThroughput: -1, uploadThroughput: -1 });
   }
 
   close() {

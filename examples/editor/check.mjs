@@ -1,158 +1,196 @@
-// Drives two windows with real keys and the mouse, and compares what they show with what their sites hold. Called by `check`:
-// node check.mjs CHROMIUM PROGRAM [PICTURE], where a picture of both windows is written to.
+// Drives windows with real keys and the mouse, and compares what they show with what their sites hold. Called by `check`:
+// node check.mjs CHROMIUM PROGRAM [PICTURE], where a picture of two windows is written to.
 import assert from "node:assert/strict";
+import { execFileSync } from "node:child_process";
 import { mkdtempSync, readFileSync, rmSync, writeFileSync } from "node:fs";
 import { tmpdir } from "node:os";
 import { join } from "node:path";
 import { fileURLToPath } from "node:url";
-import { Browser, serve, until } from "./browser.mjs";
-import { clickAfter, dragOver, html, keys, meet, paste, press } from "./person.mjs";
+import { World, compile } from "../../clients/node/index.js";
+import { Browser, serve, serveFiles } from "./browser.mjs";
+import * as ahead from "./checks/ahead.mjs";
+import * as big from "./checks/big.mjs";
+import * as company from "./checks/company.mjs";
+import * as http from "./checks/http.mjs";
+import * as joining from "./checks/joining.mjs";
+import * as pictures from "./checks/pictures.mjs";
+import * as single from "./checks/single.mjs";
+import { run } from "./checks/steps.mjs";
+import * as whole from "./checks/whole.mjs";
+import { clickAfter, dragOver, html, meet, notice } from "./person.mjs";
 
 const [chromium, program, picture] = process.argv.slice(2);
 const folder = mkdtempSync(join(tmpdir(), "editor-"));
-
-// The sample, and what must never run.
-const file = join(folder, "page.html");
-writeFileSync(file, readFileSync(fileURLToPath(new URL("sample.html", import.meta.url)), "utf8") + `<script>hacked = 1</script>
+const here = (path) => fileURLToPath(new URL(path, import.meta.url));
+const sample = readFileSync(here("sample.html"), "utf8");
+// what must never run
+const SCRIPTS = `<script>hacked = 1</script>
 <p>Ends <img src="x" onerror="hacked = 1"><a href="javascript:hacked = 1" onclick="hacked = 1">here</a>.</p>
-`);
+`;
+// two, so that both ways can be gone at once: each has a clipboard of its own
+const [browser, other] = await Promise.all([Browser.start(chromium), Browser.start(chromium)]);
+let failed = 0;
 
-const server = await serve(program, file);
-const browser = await Browser.start(chromium);
-const ada = await browser.edit(server.url), ben = await browser.edit(server.url);
-
-let expected = await html(ada);
-function becomes(from, to) {
-  assert.equal(expected.split(from).length, 2, `${from} stands once in the page`);
-  expected = expected.replace(from, to);
-}
-const holds = (person, text) => until(`the page holds ${text}`, async () => (await html(person)).includes(text));
-
-async function write() {
-  // typing, Backspace and Delete; Enter after a heading
-  await clickAfter(ada, "A page for two");
-  await ada.type(", 😀x");
-  await keys(ada, "Backspace", "Enter");
-  await ada.type("Worlds");
-  await keys(ada, "Home", "Delete");
-  await ada.type("Two w");
-  // selection by keys; a mark, and typing that goes on with it, and without it
-  await keys(ada, "End", "ctrl+shift+ArrowLeft", "ctrl+b", "ArrowRight");
-  await ada.type(" meet");
-  await keys(ada, "ctrl+b");
-  await ada.type(".");
-  becomes("A page for two</h1>", "A page for two, 😀</h1><p>Two <b>worlds meet</b>.</p>");
+async function check(name, act) {
+  const begin = performance.now();
+  try {
+    await act();
+  } catch (error) {
+    failed++;
+    console.error(`${name}: ${error.stack}`);
+  }
+  if (process.env.VERBOSE) console.log(`${(performance.now() - begin).toFixed().padStart(6)} ms  ${name}`);
 }
 
-async function dress() {
-  // selection by the mouse; a button, a key, and the field for a link
-  await dragOver(ben, "what is typed");
-  await press(ben, "italic");
-  becomes("what is typed in one", "<i>what is typed</i> in one");
-  await dragOver(ben, "both end");
-  await ben.key("ctrl+k");
-  await until("the field for the address is there", () => ben.value("document.activeElement.localName === 'input'"));
-  await ben.type("example.org/ends");
-  await ben.key("Enter");
-  becomes("both end", '<a href="https://example.org/ends">both end</a>');
-  // a heading, by the keyboard
-  await clickAfter(ben, "Offsets count");
-  await ben.value("document.querySelector('#bar select').focus()");
-  await ben.key("ArrowDown");
-  const line = " count characters, so 😀 and é are one each.";
-  becomes(`<p>Offsets${line}</p>`, `<h1>Offsets${line}</h1>`);
-  await holds(ben, "<h1>Offsets");
+// Files with these pages in a folder of their own.
+function written(pages) {
+  const to = mkdtempSync(join(folder, "pages-"));
+  return pages.map((page, k) => {
+    const path = join(to, `${k}.html`);
+    writeFileSync(path, page);
+    return path;
+  });
 }
 
-async function list() {
-  // an item, one deeper, and back; in an empty item Enter ends the list; a list by a button
-  await clickAfter(ada, "leaves the rest.");
-  await keys(ada, "Enter");
-  await ada.type("deep");
-  await keys(ada, "Tab", "Enter");
-  await ada.type("flat");
-  await keys(ada, "shift+Tab", "Enter", "Enter");
-  await ada.type("after");
-  await press(ada, "ol");
-  await holds(ada, "<li><p>flat</p></li></ul><ol><li><p>after</p></li></ol>");
-  // Backspace at the beginning takes the text out of its list, and then joins it to the item before
-  await keys(ada, "Home", "Backspace", "Backspace");
-  becomes("leaves the rest.</li></ul>", "leaves the rest.<ul><li><p>deep</p></li></ul></li><li><p>flatafter</p></li></ul>");
+// The editor's server, with these pages. `of` gives the address of one, by its number.
+async function withServer(pages, ...words) {
+  const server = await serve(program, ...words, ...written(pages));
+  return { ...server, of: (k) => server.url.replace(/page=.*/, `page=${k}.html`) };
 }
 
-async function undo() {
-  // over what was erased, which stands in the way of what was typed, and over what the other did meanwhile
-  await clickAfter(ada, "new paragraph");
-  await ada.type(" xyz");
-  await keys(ada, "Backspace", "Backspace");
-  await clickAfter(ben, "Key");
-  await ben.type("!");
-  becomes("<th>Key", "<th>Key!");
-  await meet(ada, ben);
-  await keys(ada, "ctrl+z");
-  await holds(ada, "new paragraph xyz");
-  await keys(ada, "ctrl+z");
-  await holds(ada, "new paragraph or item");
-  await keys(ada, "ctrl+shift+z", "ctrl+y");
-  becomes("new paragraph or", "new paragraph x or");
+// The same files, given by a web server that knows nothing of them.
+async function withoutServer(pages) {
+  const to = mkdtempSync(join(folder, "files-"));
+  execFileSync(process.execPath, [here("files.mjs"), to, ...written(pages)]);
+  const server = await serveFiles(to);
+  return { ...server, of: (k) => `${server.url}?page=${k}.html` };
 }
 
-async function bringIn() {
-  // what a browser copies, with scripts and styles in it
-  await clickAfter(ben, "are one each.");
-  await paste(ben, `<meta charset="utf-8"><p style="color:red" onclick="hacked = 1">One<br>&amp;&nbsp;<a href="javascript:hacked = 1">two</a></p>
-    <script>hacked = 1</script><div id="x">thr<font color="red">ee</font></div>`);
-  await ben.type("?");
-  // an input method
-  await ben.call("Input.imeSetComposition", { text: "z", selectionStart: 1, selectionEnd: 1 });
-  await ben.call("Input.insertText", { text: "ž" });
-  becomes("are one each.</h1>", "are one each.</h1><p>One<br>&amp;&nbsp;two</p><p>three?ž</p>");
+// A window on a page, for as long as the act takes.
+async function visit(browser, url, act) {
+  const person = await browser.edit(url);
+  try {
+    await act(person);
+  } catch (error) {
+    error.message += ` [${await notice(person).catch(String)}]`;
+    throw error;
+  } finally {
+    await person.close();
+  }
 }
 
-// Both at once, where it isn't known which site comes first.
-async function race() {
-  const count = (page, letter) => page.split(letter).length - 1;
-  const before = await meet(ada, ben);
-  await clickAfter(ada, "Type in both");
-  await clickAfter(ben, "in one paragraph");
-  await Promise.all([ada.type("AAAAAAAAAAAA"), ben.type("BBBBBBBBBBBB")]);
-  await clickAfter(ben, "Type in both");
-  await Promise.all([ada.type("AAAAAAAA"), ben.type("BBBBBBBB")]);
-  const after = await meet(ada, ben);
-  for (const letter of "AB") assert.equal(count(after, letter) - count(before, letter), 20, "something that was typed is lost");
-  // what one erases the other types in
-  await dragOver(ada, "Offsets count characters");
-  await clickAfter(ben, "count");
-  await Promise.all([ada.key("Delete"), ben.type("CCCCCC")]);
-  await Promise.all([ada.key("ctrl+z"), ben.key("ctrl+z")]);
+async function checkSingle(way, browser, start) {
+  const all = [...single.cases, ...single.boxes, ...(isWhole ? whole.cases : [])];
+  const server = await start(all.map(({ page }) => page));
+  for (const [k, { name, steps, wanted }] of all.entries()) {
+    await check(`${way}: ${name}`, () => visit(browser, server.of(k), async (ada) => {
+      if (!steps) return assert.deepEqual(await single.boxesOf(ada), wanted);
+      await run(ada, steps);
+      return assert.equal(await meet(ada), wanted);
+    }));
+  }
+  await server.close();
 }
 
-try {
-  await write();
-  await dress();
-  await list();
-  await undo();
-  await bringIn();
-  assert.equal(await meet(ada, ben), expected);
+async function checkCompany() {
+  const server = await withServer([sample + SCRIPTS]);
+  const ada = await browser.edit(server.of(0)), ben = await browser.edit(server.of(0));
+  let expected = await html(ada);
+  for (const [name, act, from, to] of company.steps) {
+    await check(`company: ${name}`, async () => {
+      assert.equal(expected.split(from).length, 2, `${from} stands once in the page`);
+      expected = expected.replace(from, to);
+      await act(ada, ben);
+      assert.equal(await meet(ada, ben), expected);
+    });
+  }
   if (picture) {
     await dragOver(ben, "both windows at once");
     await clickAfter(ada, "Undo: it");
     await meet(ada, ben);
     writeFileSync(picture, await browser.together([ada, ben]));
   }
-  await race();
-  await meet(ada, ben);
-  for (const person of [ada, ben]) assert.equal(await person.value("typeof hacked"), "undefined", "a script of the page ran");
-  console.log("editor: ok");
-} catch (error) {
-  for (const person of [ada, ben]) {
-    console.error(await html(person).catch(String));
-    console.error(await person.value("document.querySelector('#notice').textContent").catch(String));
-  }
-  console.error(error);
-  process.exitCode = 1;
-} finally {
-  await browser.close();
-  server.close();
-  rmSync(folder, { recursive: true });
+  for (const name of ["selections", "dropped", "away", "race"]) await check(`company: ${name}`, () => company[name](ada, ben));
+  await check("company: the log makes the page that both windows hold", async () => {
+    const sites = await Promise.all([ada, ben].map((person) => person.value("vemodel.editor.session.site")));
+    const page = await meet(ada, ben);
+    assert.deepEqual(await http.replayed(server.of(0), program, sites), [page, page]);
+  });
+  await check("company: no script of the page ran", async () => {
+    for (const person of [ada, ben]) assert.equal(await person.value("typeof hacked"), "undefined");
+  });
+  await Promise.all([ada.close(), ben.close()]);
+  await server.close();
 }
+
+async function checkServer() {
+  const server = await withServer([sample, big.page]);
+  await check("http: windows that open at once", () => http.together(server.of(0)));
+  await check("http: lines that a window writes", () => http.writing(server.of(0)));
+  for (const { name, act } of http.cases) await check(name, () => act(server.of(0)));
+  await check("a page of 1 MB", async () => {
+    const { opens, erases } = await big.check(browser, server.of(1));
+    console.log(`1 MB: ${opens.toFixed()} ms of work to open, ${erases.toFixed()} ms to erase all`);
+  });
+  await server.close();
+}
+
+async function checkPictures() {
+  const gallery = await pictures.gallery();
+  for (const words of [[], ["--pictures", gallery.origin]]) {
+    const server = await withServer([gallery.page], ...words);
+    const look = (ada) => pictures.check(ada, gallery, words.length > 0);
+    await check(`pictures: ${words[0] ?? "none allowed"}`, () => visit(browser, server.of(0), look));
+    await server.close();
+  }
+  gallery.close();
+}
+
+// Whether the core knows `live` and `exact`.
+async function knowsWhole() {
+  const server = await withoutServer([whole.page]);
+  let isKnown = false;
+  await visit(browser, server.of(0), async (ada) => (isKnown = await whole.isKnown(ada)));
+  await server.close();
+  if (!isKnown) console.log("skipped: undo in company and what is kept whole, as this core knows neither live nor exact");
+  return isKnown;
+}
+
+async function checkWhole() {
+  const server = await withServer([whole.page]);
+  const ada = await browser.edit(server.of(0)), ben = await browser.edit(server.of(0));
+  await check("whole: ten changes undone and made again", () => whole.tenChanges(ada, ben));
+  await check("whole: under what was taken back", () => whole.under(ada, ben));
+  await Promise.all([ada.close(), ben.close()]);
+  await server.close();
+}
+
+async function checkAhead() {
+  const to = mkdtempSync(join(folder, "files-"));
+  execFileSync(process.execPath, [here("files.mjs"), to]);
+  const module = await compile(readFileSync(join(to, "vemodel/vemodel.wasm")));
+  await check("sessions ahead of the log", () => ahead.check(to, World, module));
+}
+
+async function checkJoining() {
+  const files = await withoutServer([joining.page]);
+  const again = (port) => serve(program, "--port", String(port), ...written([joining.page]));
+  await check("joining: alone, and later not", async () => {
+    const together = await joining.alone(browser, { ...files, url: files.of(0) }, again);
+    await joining.apart(together, again);
+  });
+}
+
+const isWhole = await knowsWhole();
+await Promise.all([checkSingle("with a server", browser, withServer), checkSingle("without one", other, withoutServer)]);
+await other.close();
+await checkAhead();
+await checkJoining();
+await checkCompany();
+await checkServer();
+await checkPictures();
+if (isWhole) await checkWhole();
+await browser.close();
+rmSync(folder, { recursive: true });
+if (!failed) console.log("editor: ok");
+process.exit(failed ? 1 : 0); // a check that failed may have left a server

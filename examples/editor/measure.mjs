@@ -3,8 +3,8 @@
 import { mkdtempSync, rmSync, writeFileSync } from "node:fs";
 import { tmpdir } from "node:os";
 import { join } from "node:path";
-import { Browser, serve } from "./browser.mjs";
-import { clickAfter, idle } from "./person.mjs";
+import { Browser, serve, until } from "./browser.mjs";
+import { clickAfter } from "./person.mjs";
 
 const KEYS = 40;
 const [chromium, program] = process.argv.slice(2);
@@ -44,13 +44,14 @@ try {
     await watch(there);
     for (let k = 0; k < KEYS; k++) {
       await here.type("x");
-      await idle(here);
-      await idle(there);
+      const shown = () => Promise.all([here, there].map((it) => it.value("drawn.length")));
+      await until("both show it", async () => (await shown()).every((count) => count > k));
     }
     const [pressed, drawn, other] = await Promise.all([here.value("pressed"), here.value("drawn"), there.value("drawn")]);
     const mine = drawn.map((at, k) => at - pressed[k]), its = other.map((at, k) => at - pressed[k]);
-    console.log(`${name.padEnd(8)}${opens.toFixed(0).padStart(7)}   ${of(mine, 0.5)}${of(mine, 0.95)}              ${of(its, 0.5)}${of(its, 0.95)}`);
-    server.close();
+    const [first, second] = [mine, its].map((list) => `${of(list, 0.5)}${of(list, 0.95)}`);
+    console.log(`${name.padEnd(8)}${opens.toFixed(0).padStart(7)}   ${first}              ${second}`);
+    await server.close();
     await here.close();
     await there.close();
   }

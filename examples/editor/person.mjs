@@ -2,14 +2,24 @@
 import assert from "node:assert/strict";
 import { until } from "./browser.mjs";
 
-// The page that the window's site holds.
-export const html = async (person) => JSON.parse((await person.value("vemodel.link.read({ do: 'html' })")).slice(3));
+/** The page that the window's site holds. */
+export const html = async (person) => JSON.parse((await person.value("vemodel.editor.session.read({ do: 'html' })")).slice(3));
 
-// All that the keys so far asked for is on the screen.
-export const idle = (person) => person.value("vemodel.editor.act(() => null).then(() => true)");
+/** What the keys and the mouse asked for so far is on the screen. */
+export const idle = (person) => person.value("vemodel.editor.look()");
 
-// Where a text of the page begins and ends on the screen.
-const place = (person, text) => until(`${text} is shown`, () => person.value(`(() => {
+const isShared = (person) => person.value("vemodel.editor.session.ahead.lines.length === 0");
+
+/** The server has all that was done. */
+export const shared = (person) => until("all is shared", () => isShared(person));
+
+export const notice = (person) => person.value("(({ hidden, textContent }) => hidden ? '' : textContent)(document.querySelector('#notice'))");
+export const state = (person) => person.value("document.querySelector('#state').textContent");
+export const shows = (person, selector) =>
+  person.value(`[...document.querySelectorAll(${JSON.stringify(selector)})].map((dom) => dom.textContent)`);
+
+/** Where a text of the page begins and ends on the screen. */
+export const placeOf = (person, text) => until(`${text} is shown`, () => person.value(`(() => {
   const walker = document.createTreeWalker(document.querySelector("#page"), NodeFilter.SHOW_TEXT);
   for (let node; (node = walker.nextNode()); ) {
     const at = node.data.indexOf(${JSON.stringify(text)});
@@ -23,61 +33,116 @@ const place = (person, text) => until(`${text} is shown`, () => person.value(`((
   }
 })()`));
 
+/** The middle of an element. */
+export const middleOf = (person, selector) => until(`${selector} is shown`, () => person.value(`(() => {
+  const dom = document.querySelector(${JSON.stringify(selector)});
+  if (!dom) return null;
+  dom.scrollIntoView({ block: "nearest" });
+  const box = dom.getBoundingClientRect();
+  return [box.x + box.width / 2, box.y + box.height / 2];
+})()`));
+
 // What others type moves the text, so the other window's turns have to be on the screen, too: `meet` sees to that where it matters.
 export async function clickAfter(person, text) {
   await idle(person);
-  await person.click((await place(person, text))[1]);
+  await person.click((await placeOf(person, text))[1]);
+  await idle(person);
+}
+
+export async function clickOn(person, selector) {
+  await idle(person);
+  await person.click(await middleOf(person, selector));
+  await idle(person);
+}
+
+export async function tripleClick(person, text) {
+  await idle(person);
+  const [[x, y], [end]] = await placeOf(person, text);
+  await person.click([(x + end) / 2, y], 3);
   await idle(person);
 }
 
 export async function dragOver(person, text) {
   await idle(person);
-  await person.drag(...(await place(person, text)));
+  await person.drag(...(await placeOf(person, text)));
   await idle(person);
 }
 
 export async function press(person, name) {
-  await person.click(await person.value(`(() => {
-    const box = document.querySelector("[data-do=${name}]").getBoundingClientRect();
-    return [box.x + box.width / 2, box.y + box.height / 2];
-  })()`));
+  await person.click(await middleOf(person, `[data-do=${name}]`));
   await idle(person);
 }
 
-// As fast as they go; what is to come of them waits its turn.
+/** Chooses a word of a menu of the toolbar. */
+export async function choose(person, menu, word) {
+  await person.value(`(() => {
+    const dom = document.querySelector("#bar select[aria-label='${menu}']");
+    dom.value = "${word}";
+    dom.dispatchEvent(new Event("change", { bubbles: true }));
+  })()`);
+  await idle(person);
+}
+
+/** As fast as they go; what is to come of them waits its turn. */
 export async function keys(person, ...names) {
   await Promise.all(names.map((name) => person.key(name)));
   await idle(person);
 }
 
+export async function selectAll(person) {
+  await person.key("ctrl+a", "selectAll");
+  await idle(person);
+}
+
+// The clipboard is for the window in front.
+async function byClipboard(person, key, command) {
+  await person.call("Page.bringToFront");
+  await person.key(key, command);
+  await idle(person);
+}
+export const cut = (person) => byClipboard(person, "ctrl+x", "cut");
+export const pasteBack = (person) => byClipboard(person, "ctrl+v", "paste");
+
+/** Copies, and gives the HTML that other programs get. */
+export async function copied(person) {
+  await person.value(`void addEventListener("copy", ({ clipboardData }) => {
+    globalThis.copied = clipboardData.getData("text/html");
+  }, { once: true })`);
+  await byClipboard(person, "ctrl+c", "copy");
+  return person.value("copied");
+}
+
+/** Pastes what another program put on the clipboard. */
 export async function paste(person, text) {
-  // the clipboard is for the window in front
   await until("the clipboard holds what is to be pasted", async () => {
     await person.call("Page.bringToFront");
     return person.value(`navigator.clipboard.write([new ClipboardItem({ "text/plain": new Blob(["-"], { type: "text/plain" }),
       "text/html": new Blob([${JSON.stringify(text)}], { type: "text/html" }) })]).then(() => true, () => false)`);
   });
-  await person.paste();
-  await idle(person);
+  await pasteBack(person);
 }
 
-// Waits until all sites hold one page, and gives it. Each window has to show exactly what its site holds: its tree is the site's list,
-// and its screen is what a window that opens now would show.
+/**
+ * Waits until all sites hold one page, and gives it. Each window has to show exactly what its site holds: its tree is the site's list,
+ * and its screen is what a window that opens now would show.
+ */
 export async function meet(...people) {
   await until("all sites hold one page", async () => {
     const pages = new Set();
     for (const person of people) {
-      await idle(person);
+      if (!(await isShared(person))) return false;
       pages.add(await html(person));
     }
     return pages.size === 1;
   });
   for (const person of people) {
     const [shown, held, screen, fresh] = await person.value(`(async () => {
-      const [tree, { View }] = await Promise.all([import("./tree.js"), import("./view.js")]);
-      const held = JSON.parse((await vemodel.link.read({ do: "data" })).slice(3));
+      const [tree, { Pairs }, { View }] = await Promise.all(["tree", "pairs", "view"].map((name) => import("./" + name + ".js")));
+      const held = JSON.parse(vemodel.editor.session.read({ do: "data" }).slice(3));
       const root = tree.newRoot(), host = document.createElement("div");
-      new View(host, root).update(root, 0, 0, tree.parse(held));
+      const again = new View(host, root, new Pairs());
+      again.update(root, 0, 0, tree.parse(held));
+      for (const view of [again, vemodel.editor.view]) view.drawAll();
       return [tree.itemsOf(vemodel.editor.root.kids), held, document.querySelector("#page").innerHTML, host.innerHTML];
     })()`);
     assert.deepEqual(shown, held, "a window's tree isn't its site's list");

@@ -1,121 +1,196 @@
-// A page that is edited: one program, and a site of it for each window.
+// A page that is edited: the log of its lines, a core that answers each of them first, and a site of it for each window.
 import { randomUUID } from "node:crypto";
-import { Core, accepted, holes, itemsIn } from "./core.mjs";
+import { COMMANDS } from "../../clients/web/table.js";
+import { sitesFor } from "./page/sites.js";
+import { sumOf } from "./page/sum.js";
+import { Rejected } from "./rejected.mjs";
 
-const SITES = 8; // as many as the program has
+const AWAY = 60_000; // milliseconds for which nobody else gets the site of a window that lost its connection
+const LONG = 48 << 20; // bytes of a log that begins anew as soon as nobody is there
+const MOST = 60 << 20; // bytes of any log: a program reads 64 MiB
+const PIECE = 500; // lines of a log that are sent at once
 
-// What a window may ask. The rest is the room's: pages are opened and sites are joined here alone.
-const READ = new Set(["data", "html"]);
-const ASKED = new Set(["select", "type", "erase", "text", "remove", "split", "mark", "unmark", "wrap", "convert",
-  "attr", "indent", "outdent", "insert", "apply", "batch", "revoke"]);
+// What a window may write: what changes something, but for the page that is opened.
+const CHANGING = new Set(["number", "selection", "served", "taken"]); // replies
+const isWritten = (what) => Object.hasOwn(COMMANDS, what) && what !== "open" && CHANGING.has(COMMANDS[what].gives);
+
+const accepted = (reply) => reply.startsWith("ok");
+
+// A line as a window spells it, which names its own site.
+function checked(line, isSite) {
+  let command;
+  try {
+    command = JSON.parse(line);
+  } catch {
+    throw new Rejected(400, "a line is JSON");
+  }
+  if (JSON.stringify(command) !== line || !line.isWellFormed()) throw new Rejected(400, "a line is spelled as JSON.stringify does");
+  if (!isWritten(command?.do) || !isSite(command.site)) throw new Rejected(400, "a window writes no such line");
+  return line;
+}
 
 export class Room {
+  #newCore;
   #core;
-  #windows = new Map();
-  #seen = Array(SITES).fill(0); // how many committed entries each site has seen
-  #opened;
+  #log;
+  #lines;
+  #sums; // of the first lines, by their number
+  #bytes;
+  #counts; // of each site's lines
+  #windows = new Map(); // by their secrets: `{ site, wire, since, presence }`
   #turns = Promise.resolve();
 
-  constructor(program, page) {
-    this.#core = new Core(program);
-    this.#opened = this.#core.ask({ do: "open", page, sites: SITES }).then((reply) => {
-      if (!accepted(reply)) throw new Error(`the page was not opened: ${reply}`);
-    });
-    this.ended = this.#core.ended;
-    this.ended.then((why) => this.#tell(null, "ended", { why }));
+  /** `newCore` starts a core; `page` is the page as it is before anybody edits it. */
+  constructor(newCore, page) {
+    this.#newCore = newCore;
+    this.#inTurn(() => this.#begin(randomUUID(), [openLine(page)])).catch(() => {}); // who joins is told
   }
 
-  // A window comes: it gets a site of its own, and a secret that names it from now on.
-  join(send) {
+  // Another log in the place of this one. The windows are sent away, and come again.
+  async #begin(log, lines) {
+    const core = this.#newCore();
+    for (const line of lines) {
+      const reply = await core.line(line);
+      if (accepted(reply)) continue;
+      core.close();
+      throw new Rejected(409, `the core answers: ${reply}`);
+    }
+    this.#core?.close();
+    this.#core = core;
+    this.#log = log;
+    this.#lines = [];
+    this.#sums = [0];
+    this.#bytes = 0;
+    this.#counts = Array(JSON.parse(lines[0]).sites).fill(0);
+    lines.forEach((line) => this.#note(line));
+    this.close();
+  }
+
+  /** Sends the windows away. They come again, to the room that is there then. */
+  close() {
+    for (const { wire } of this.#windows.values()) wire?.close();
+    this.#windows.clear();
+  }
+
+  #note(line) {
+    const { site } = JSON.parse(line);
+    this.#lines.push(line);
+    this.#sums.push(sumOf(this.#sums.at(-1), line));
+    this.#bytes += line.length;
+    if (site !== undefined) this.#counts[site]++;
+  }
+
+  // Has the core answer a line, and puts it into the log where it was accepted: a refusal changes nothing.
+  async #ask(line) {
+    const reply = await this.#core.line(line);
+    if (accepted(reply)) this.#note(line);
+    return reply;
+  }
+
+  /**
+   * A window comes, with what it has of the log. It gets a site, which it may have had before, and a secret that names it from now on; and
+   * the lines that it doesn't have.
+   */
+  join(wire, { id: known, site: wanted, log, length, sum }) {
     return this.#inTurn(async () => {
-      const taken = new Set([...this.#windows.values()].map((w) => w.site));
-      const site = this.#seen.findIndex((_, k) => !taken.has(k));
-      if (site < 0) throw new Error(`${SITES} windows are open already`);
-      await this.#take(site);
-      const id = randomUUID();
-      send("hello", { id, site, seen: this.#seen[site], others: await this.#carets() });
-      this.#windows.set(id, { site, send, isNew: true });
+      const isKnown = log === this.#log && this.#sums[length] === sum;
+      const id = isKnown && known ? known : randomUUID();
+      const site = this.#windows.get(id)?.site ?? (await this.#free(isKnown ? wanted : undefined));
+      this.#windows.set(id, { site, wire });
+      wire.send("hello", { id, site, log: this.#log, length: this.#lines.length, isKnown, isUntouched: this.#lines.length === 1 });
+      for (let k = isKnown ? length : 0; k < this.#lines.length; k += PIECE) wire.send("lines", { lines: this.#lines.slice(k, k + PIECE) });
+      for (const { site: other, presence } of this.#windows.values()) if (presence) wire.send("presence", { site: other, ...presence });
       return id;
     });
   }
 
-  leave(id) {
-    const site = this.#windows.get(id)?.site;
-    this.#windows.delete(id);
-    this.#tell(null, "left", { site });
+  // A site that nobody has, or that of the window that has been away for longest. What was left there is joined with the rest.
+  async #free(wanted) {
+    const taken = new Set([...this.#windows.values()].map(({ site }) => site));
+    if (wanted in this.#counts && !taken.has(wanted)) return wanted;
+    const site = this.#counts.findIndex((_, k) => !taken.has(k));
+    return this.#cleared(site < 0 ? this.#takenBack() : site);
   }
 
-  // A turn of a window: its lines, all or none, then what joins its site with the others. Nobody's line comes between. So no
-  // submission is ever on its way when a turn begins, nor is anything unsent, even where a window is closed in the middle. In the end
-  // the window is given what changed in its list.
-  turn(id, lines) {
+  #takenBack() {
+    const away = [...this.#windows].filter(([, { wire, since }]) => !wire && Date.now() - since > AWAY);
+    if (away.length === 0) throw new Rejected(503, `${this.#counts.length} windows are open already`);
+    const [id, { site }] = away.reduce((a, b) => (a[1].since <= b[1].since ? a : b));
+    this.#windows.delete(id);
+    return site;
+  }
+
+  async #cleared(site) {
+    const first = this.#lines.length;
+    const can = async (what) => accepted(await this.#ask(JSON.stringify({ do: what, site })));
+    while ((await can("serve")) || (await can("take")) || (await can("send")));
+    this.#tellLines(first);
+    return site;
+  }
+
+  /** A window's connection is gone. */
+  leave(id, wire) {
+    const window = this.#windows.get(id);
+    if (window?.wire !== wire) return; // it came back by another connection
+    Object.assign(window, { wire: null, presence: null, since: Date.now() });
+    this.#tell(id, "left", { site: window.site });
+    this.#inTurn(() => this.#renew()).catch(() => {});
+  }
+
+  /** Lines of a window, of which the first has this number among all of its site's. Those that are there already are passed. */
+  write(id, from, lines, presence) {
     return this.#inTurn(async () => {
-      const window = this.#window(id);
-      const { site } = window;
-      const replies = [];
-      for (const line of lines) {
-        replies.push(ASKED.has(line?.do) ? await this.#core.ask({ ...line, site }) : "no bad_command do");
-        if (accepted(replies.at(-1))) continue;
-        while (accepted(await this.#core.ask({ do: "undo", site })));
-        break;
+      const window = this.#windows.get(id);
+      if (!window) throw new Rejected(410, "this window's place was given to another one");
+      const first = this.#lines.length, has = this.#counts[window.site];
+      if (from > has) throw new Rejected(409, "lines before these are missing");
+      if (lines.length && this.#bytes > MOST) throw new Rejected(413, "the page's log is full, and begins anew once all windows are closed");
+      try {
+        for (const line of lines.slice(has - from)) await this.#writeOne(checked(line, (site) => site === window.site));
+      } finally {
+        this.#tellLines(first);
       }
-      const sent = accepted(await this.#core.ask({ do: "send", site }));
-      if (sent) await this.#core.ask({ do: "serve", site });
-      const taken = await this.#take(site);
-      const state = { site, seen: this.#seen[site], caret: await this.#caret(site) };
-      this.#tell(id, "turn", { ...state, changed: sent });
-      return { replies, taken, ...(await this.#changes(window)), ...state };
+      if (presence) this.#tell(id, "presence", { site: window.site, ...(window.presence = presence) });
     });
   }
 
-  // A line that changes nothing, and after which the site takes nothing: so it is read as the window's last turn left it.
-  read(id, line) {
-    return this.#inTurn(() => (READ.has(line?.do) ? this.#core.ask({ ...line, site: this.#window(id).site }) : "no bad_command do"));
+  async #writeOne(line) {
+    const reply = await this.#ask(line);
+    if (!accepted(reply)) throw new Rejected(409, `the server's core answers ${reply} to a line of this window`);
   }
 
-  #window(id) {
-    if (!this.#windows.has(id)) throw new Error("this window isn't open");
-    return this.#windows.get(id);
+  // A long log begins anew where nobody is there, by the page as it is. What isn't joined yet is joined before.
+  async #renew() {
+    if (this.#bytes < LONG || [...this.#windows.values()].some(({ wire }) => wire)) return;
+    for (let k = 0; k < this.#counts.length; k++) await this.#cleared(k);
+    await this.#cleared(0);
+    const page = JSON.parse((await this.#core.line('{"do":"html"}')).slice(3));
+    await this.#begin(randomUUID(), [openLine(page)]);
   }
 
-  // Hands the site all that the server has for it.
-  async #take(site) {
-    const taken = [];
-    for (;;) {
-      const [word, what, count, , dropped] = (await this.#core.ask({ do: "take", site })).split(" ");
-      if (word === "no") return taken;
-      taken.push({ [what]: +count, dropped: +(dropped ?? 0) });
-      this.#seen[site] += +count;
-    }
-  }
-
-  // The patches that lead from the list that a window shows to its site's, and the items that came, each run of them with its place. A
-  // window that is new shows nothing, whatever its site told the one before.
-  async #changes(window) {
-    const { site, isNew } = window;
-    const [, length, told] = (await this.#core.ask({ do: "changes", site })).split(" ");
-    window.isNew = false;
-    const patches = isNew ? [[0, 0, +length]] : JSON.parse(told);
-    const came = holes(patches).map(async ([from, to]) => [from, itemsIn(await this.#core.ask({ do: "data", from, to, site }))]);
-    return { patches, came: await Promise.all(came) };
-  }
-
-  async #caret(site) {
-    return (await this.#core.ask({ do: "caret", site })).split(" ").slice(1).map(Number);
-  }
-
-  #carets() {
-    return Promise.all([...this.#windows.values()].map(async ({ site }) =>
-      ({ site, seen: this.#seen[site], caret: await this.#caret(site) })));
+  /** The log of a window that went on without a server, in the place of one to which nobody wrote. */
+  seed(old, log, lines) {
+    return this.#inTurn(() => {
+      const isUntouched = old === this.#log && this.#lines.length === 1 && lines[0] === this.#lines[0];
+      if (!isUntouched) throw new Rejected(409, "there is another log of this page");
+      for (const line of lines.slice(1)) checked(line, (site) => site in this.#counts);
+      return this.#begin(log, lines);
+    });
   }
 
   #inTurn(act) {
-    const turn = this.#turns.then(() => this.#opened).then(act);
+    const turn = this.#turns.then(act);
     this.#turns = turn.catch(() => {});
     return turn;
   }
 
+  #tellLines(first) {
+    if (first < this.#lines.length) this.#tell(null, "lines", { lines: this.#lines.slice(first) });
+  }
+
   #tell(but, event, data) {
-    for (const [id, { send }] of this.#windows) if (id !== but) send(event, data);
+    for (const [id, { wire }] of this.#windows) if (id !== but) wire?.send(event, data);
   }
 }
+
+const openLine = (page) => JSON.stringify({ do: "open", page, sites: sitesFor(page) });

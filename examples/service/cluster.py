@@ -2,6 +2,7 @@
 from __future__ import annotations
 
 import contextlib
+import os
 import signal
 import socket
 import sqlite3
@@ -9,6 +10,7 @@ import subprocess
 import sys
 import time
 import urllib.request
+from collections.abc import Mapping
 from pathlib import Path
 from typing import Any
 
@@ -35,16 +37,17 @@ class Sqlite:
 class Server:
     """One server, which is killed and started again at the same address."""
 
-    def __init__(self, folder: Path, words: list[str]) -> None:
+    def __init__(self, folder: Path, words: list[str], environment: Mapping[str, str] = os.environ) -> None:
         with socket.socket() as free:
             free.bind(("127.0.0.1", 0))
             self.address = f"127.0.0.1:{free.getsockname()[1]}"
         self._words = [sys.executable, str(SERVER), "--listen", self.address, *words]
+        self._environment = environment
         self._log = open(folder / "servers.log", "a")
         self._process: subprocess.Popen[bytes] | None = None
 
     def start(self) -> None:
-        self._process = subprocess.Popen(self._words, stdout=subprocess.DEVNULL, stderr=self._log)
+        self._process = subprocess.Popen(self._words, stdout=subprocess.DEVNULL, stderr=self._log, env=self._environment)
 
     def ready(self) -> None:
         until = time.monotonic() + 30
@@ -57,6 +60,34 @@ class Server:
                     raise SystemExit(f"service: no server: see {self._log.name}") from None
                 time.sleep(0.05)
 
+    @property
+    def memory(self) -> int:
+        """The bytes that its process has in memory; its programs aren't counted."""
+        assert self._process is not None
+        return resident(self._process.pid)
+
+    @property
+    def seconds(self) -> float:
+        """Of a processor that its process has taken."""
+        assert self._process is not None
+        user, system = Path(f"/proc/{self._process.pid}/stat").read_text().rpartition(") ")[2].split()[11:13]
+        return (int(user) + int(system)) / os.sysconf("SC_CLK_TCK")
+
+    @property
+    def programs(self) -> list[int]:
+        """The processes that it started."""
+        assert self._process is not None
+        children = Path(f"/proc/{self._process.pid}/task").glob("*/children")
+        return [int(child) for task in children for child in task.read_text().split()]
+
+    @property
+    def memory_of_programs(self) -> int:
+        return sum(map(resident, self.programs))
+
+    @property
+    def complaints(self) -> str:
+        return Path(self._log.name).read_text()
+
     def send(self, number: signal.Signals) -> None:
         assert self._process is not None
         self._process.send_signal(number)
@@ -67,9 +98,25 @@ class Server:
         self._process.wait()
         self._process = None
 
+    def finish(self) -> int:
+        """Tells it to end; its status."""
+        self.send(signal.SIGTERM)
+        assert self._process is not None
+        status = self._process.wait(20)
+        self._process = None
+        return status
+
     def end(self) -> None:
         if self._process is not None:
             self.kill()
+
+
+def resident(process: int) -> int:
+    """The bytes that a process has in memory; none where it has ended."""
+    try:
+        return int(Path(f"/proc/{process}/statm").read_text().split()[1]) * os.sysconf("SC_PAGE_SIZE")
+    except OSError:
+        return 0
 
 
 def put(address: str, page: str, html: str) -> None:

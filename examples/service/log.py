@@ -9,9 +9,13 @@ from __future__ import annotations
 
 import asyncio
 import contextlib
-from collections.abc import Awaitable, Callable, Sequence
+from collections.abc import Awaitable, Callable, Iterable, Sequence
 from dataclasses import dataclass
 from typing import Protocol
+
+
+SOME = 1000  # lines that one reading gives
+MUCH = 4 << 20  # and bytes, but that its last line may be longer
 
 
 class Lost(Exception):
@@ -25,6 +29,10 @@ class Elsewhere(Exception):
     def __init__(self, address: str) -> None:
         super().__init__(address)
         self.address = address
+
+
+class Gone(Exception):
+    """The page was deleted."""
 
 
 @dataclass(frozen=True)
@@ -57,6 +65,12 @@ class Log(Protocol):
     async def create(self, page: str, line: str) -> bool:
         """A new page whose first line is this `open`; False where there is one of that name."""
 
+    async def delete(self, page: str) -> None:
+        """Deletes a page of which this server is the writer."""
+
+    async def names(self, after: str, most: int) -> list[str]:
+        """So many pages, in the order of their names, from the first one after this name on."""
+
     async def span(self, page: str) -> Span | None:
         """None where there is no such page."""
 
@@ -78,6 +92,18 @@ class Log(Protocol):
         """Lines that other servers append to these pages are to be told of."""
 
     async def close(self) -> None: ...
+
+
+def some(rows: Iterable[tuple[int, str]]) -> list[tuple[int, str]]:
+    """As many of these lines as one reading gives."""
+    taken: list[tuple[int, str]] = []
+    size = 0
+    for number, line in rows:
+        taken.append((number, line))
+        size += len(line)
+        if len(taken) == SOME or size >= MUCH:
+            break
+    return taken
 
 
 class Commits:

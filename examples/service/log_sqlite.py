@@ -13,13 +13,12 @@ from concurrent.futures import ThreadPoolExecutor
 from pathlib import Path
 from typing import TypeVar
 
-from log import Batch, Commits, Lost, Span
+from log import Batch, Commits, Lost, Span, some
 
 TABLES = """
 CREATE TABLE IF NOT EXISTS pages (page TEXT PRIMARY KEY, first INTEGER NOT NULL, next INTEGER NOT NULL) WITHOUT ROWID;
 CREATE TABLE IF NOT EXISTS lines (page TEXT, number INTEGER, line TEXT NOT NULL, PRIMARY KEY (page, number)) WITHOUT ROWID;
 """
-SOME = 1000  # lines that one reading gives
 
 T = TypeVar("T")
 
@@ -61,6 +60,20 @@ class SqliteLog:
                 return made.rowcount == 1
         return await self._do(call)
 
+    async def delete(self, page: str) -> None:
+        def call() -> None:
+            with self._base:
+                self._base.execute("BEGIN IMMEDIATE")
+                self._base.execute("DELETE FROM pages WHERE page = ?", (page,))
+                self._base.execute("DELETE FROM lines WHERE page = ?", (page,))
+        await self._do(call)
+
+    async def names(self, after: str, most: int) -> list[str]:
+        def call() -> list[str]:
+            rows = self._base.execute("SELECT page FROM pages WHERE page > ? ORDER BY page LIMIT ?", (after, most))
+            return [row[0] for row in rows.fetchall()]
+        return await self._do(call)
+
     async def span(self, page: str) -> Span | None:
         def call() -> Span | None:
             row = self._base.execute("SELECT first, next FROM pages WHERE page = ?", (page,)).fetchone()
@@ -97,9 +110,8 @@ class SqliteLog:
 
     async def read(self, page: str, number: int) -> list[tuple[int, str]]:
         def call() -> list[tuple[int, str]]:
-            return self._base.execute(
-                "SELECT number, line FROM lines WHERE page = ? AND number >= ? ORDER BY number LIMIT ?", (page, number, SOME)
-            ).fetchall()
+            return some(self._base.execute(
+                "SELECT number, line FROM lines WHERE page = ? AND number >= ? ORDER BY number", (page, number)))
         return await self._do(call)
 
     def watch(self, pages: set[str]) -> None:

@@ -7,19 +7,31 @@
         core.text(2, "X")        # 7
         core.html()              # '<p>aXb</p>'
 """
-from .core import Ack, Cell, Changes, Core, Foreign, Grid, Node, Patch, Reference, Refused, Selection, Served
+from .asynchronous import AsyncProgram
+from .core import Core
+from .errors import Ended, Interrupted, Refused, TimedOut
 from .library import Library
-from .program import Ended, Program
+from .members import Attributes, Direction, Members, Step, Wrapper
+from .program import MOST_BYTES, Program
+from .values import Ack, Cell, Changes, Foreign, Grid, Item, Node, Patch, Reference, Selection, Served, Tree
 
+__version__ = "0.1.0"
 __all__ = [
     "Ack",
+    "AsyncProgram",
+    "Attributes",
     "Cell",
     "Changes",
     "Core",
+    "Direction",
     "Ended",
     "Foreign",
     "Grid",
+    "Interrupted",
+    "Item",
     "Library",
+    "MOST_BYTES",
+    "Members",
     "Node",
     "Patch",
     "Program",
@@ -27,4 +39,8 @@ __all__ = [
     "Refused",
     "Selection",
     "Served",
+    "Step",
+    "TimedOut",
+    "Tree",
+    "Wrapper",
 ]

@@ -31,9 +31,11 @@ use Rattle.model_world.specs.Commands.{requests, ask_read, open_read, commands, 
 use Rattle.model_world.specs.Refusals.{refused_as, open_refusal}
 use Rattle.model_world.specs.Opening.{open_page}
 use Rattle.model_world_law.specs.Reached.{IsReached, WorldReached}
+use Rattle.model_world_law.proofs.ChangeLemmas.{pages_are_sound}
+use Rattle.model_world_law.proofs.ChangeStand.{pages_stand}
 use Rattle.model_world_law.proofs.ReachLemmas as reach
 use Rattle.model_line_law.specs.Texts.{AllStrings, AllInMembers}
-use Rattle.model_line_law.specs.Pages.{OpenedIsUtf8, ItemsStandAfterLines, UneditedPageIsWrittenBack}
+use Rattle.model_line_law.specs.Pages.{OpenedIsUtf8, OpenedItemsStand, ItemsStandAfterLines, UneditedPageIsWrittenBack}
 use Rattle.model_line_law.proofs.LineLemmas.{line_utf8}
 
 -- ---- the text of a page that a line opens
@@ -189,6 +191,11 @@ reached_utf8 lines page w r = subst IsUtf8 (sym (opened_page_is r.text page r.op
 
 pub opened_is_utf8 : OpenedIsUtf8
 opened_is_utf8 lines page w h = reached_utf8 lines page w (subst (WorldReached lines) h (reach.every_world_is_reached lines))
+
+pub opened_items_stand : OpenedItemsStand
+opened_items_stand lines page w h =
+    let reached = subst (WorldReached lines) h (reach.every_world_is_reached lines) in
+    (pages_are_sound reached.text page reached.opened, pages_stand reached.text page (opened_is_utf8 lines page w h) reached.opened)
 
 pub every_item_stands : ItemsStandAfterLines
 every_item_stands lines page w k m h e = reach.every_item_stands lines page w k m h e (opened_is_utf8 lines page w h)

@@ -1,13 +1,12 @@
 -- Changes completed from the page as it was first read: an opening with an origin has then a head
 -- that is read for it, so names are apart and references have their keys.
 use Rattle.std.proofs.Common.{◌≡◌, ℕ, zero, Bool, true, false, not, ◌&&◌, ◌||◌, ◌==◌, if◌then◌else◌, List, [], ◌∷◌, length, map, suc, Option, Some, None, Result, Ok, Err, refl, sym, ap, ◌∙◌, subst}
-use Rattle.std.specs.Prelude.{is_some, nat_le, nat_lt, replicate, ◌+◌}
+use Rattle.std.specs.Prelude.{nat_le, nat_lt, replicate, ◌+◌}
 use Rattle.std.specs.List.{AllByRecursion}
 use Rattle.std.proofs.lemmas.Bool.{and_from, and_parts}
 use Rattle.ve_base.specs.Limits.{max_marks}
 use Rattle.ve_base.specs.Names.{NamesApart}
 use Rattle.ve_base.specs.declared.head.Head.{Head}
-use Rattle.ve_base.specs.declared.marks.Mark.{Mark}
 use Rattle.ve_kinds.specs.declared.kind.Kind.{Kind}
 use Rattle.ve_kinds.specs.declared.kind.Kind.TheVariants.{Br}
 use Rattle.ve_kinds.specs.Table.{is_element, kind_same}
@@ -93,7 +92,7 @@ written (change.NoOrigin origin) f s = tt
 -- ---- what holds of whatever is completed
 
 with_ok : {A B : Type 0} (P : A → Type 0) (Q : B → Type 0) (f : A → Result B ℕ) (r : Result A ℕ) → OfOk P r → ((x : A) → P x → OfOk Q (f x)) →
-    OfOk Q (elim r as (λ _. Result B ℕ) [ | Err origin ↦ Err origin | Ok x ↦ f x ])
+    OfOk Q (elim r as (λ _. Result B ℕ) [ Err origin ↦ Err origin | Ok x ↦ f x ])
 with_ok P Q f (Err origin) p h = tt
 with_ok P Q f (Ok x) p h = h x p
 
@@ -173,7 +172,7 @@ refer_heads (Opening kind head marks pre origin generated ∷ items) p = ((and_p
 refer_heads (Closing kind pre ∷ items) p = (tt, refer_heads items p.1)
 
 of_found : (P : Head → Type 0) (Q : PlainItem → Type 0) (origin : ℕ) (f : Head → PlainItem) (o : Option Head) → Of P o → ((h : Head) → P h → Q (f h)) →
-    OfOk Q (elim o as (λ _. Result PlainItem ℕ) [ | None ↦ Err origin | Some found ↦ Ok (f found) ])
+    OfOk Q (elim o as (λ _. Result PlainItem ℕ) [ None ↦ Err origin | Some found ↦ Ok (f found) ])
 of_found P Q origin f None p h = tt
 of_found P Q origin f (Some found) p h = h found p
 

@@ -24,3 +24,9 @@ mod StandingExamples
 pub mod CarriedLemmas
 pub mod ViewLemmas
 pub mod OverMarks
+pub mod AlikeLemmas
+pub mod AheadLemmas
+mod AheadExamples
+pub mod PutBackLemmas
+pub mod PutBackChange
+mod PutBackExamples

@@ -41,6 +41,7 @@ use Rattle.model_world_law.specs.Reached.{Becomes, IsReached, WorldReached, Ever
 use Rattle.std.specs.List.{AllByRecursion}
 use Rattle.model_site_law.specs.ItemLaws.{AllPass, Inserts}
 use Rattle.model_site_law.specs.Protocol.{Every}
+use Rattle.model_site_law.proofs.HintLemmas.{hints_stand_beside}
 use Rattle.model_site_law.proofs.ItemLemmas.{items_keep}
 use Rattle.model_world_law.specs.Standing.{may_stand}
 use Rattle.model_world_law.specs.ViewLines.{teller}
@@ -218,7 +219,7 @@ every_world_is_reached lines = lines_reached layers_fit lines [] Closed tt
 
 -- ---- each site
 
-site_holds : (lines : List (List ℕ)) (o : Opened) (w : Session) (k : ℕ) (m : Member) → IsReached lines o w → slice_get w.members k ≡ Some m → SiteHolds (opened_with o.items) w m
+pub site_holds : (lines : List (List ℕ)) (o : Opened) (w : Session) (k : ℕ) (m : Member) → IsReached lines o w → slice_get w.members k ≡ Some m → SiteHolds (opened_with o.items) w m
 site_holds lines o w k m r e =
     let base = opened_with o.items in
     let there = ap (λ (v : Session). slice_get v.members k) (sym r.same) ∙ e in
@@ -228,6 +229,7 @@ site_holds lines o w k m r e =
       list = list_is_replay base r.sites r.events k m r.opens r.may there;
       runs = all_entries_run base r.sites r.events k m r.opens r.may there;
       seen = seen_is_committed base r.sites r.events k m r.opens r.may there;
+      beside = hints_stand_beside base r.sites r.events k m r.opens r.may there;
       stored = store_holds base r.sites r.events k m r.opens r.may there;
       distinct = store_is_distinct base r.sites r.events k m r.opens (first_store_is_distinct o.items) r.may there;
       begins = store_begins base r.sites r.events k m r.opens r.may there;

@@ -28,18 +28,18 @@ use Rattle.model_world_law.proofs.ShownLemmas.{passes, text_back, listed_back, a
 
 -- ---- what is left out is empty
 
-attrs_or : (exact : Bool) (attrs : List Attr) → AreAttrs attrs → are_allowed exact attrs ≡ true → read_or [] (allowed_attrs_in exact) (if_some attrs_shown attrs) ≡ Some attrs
+pub attrs_or : (exact : Bool) (attrs : List Attr) → AreAttrs attrs → are_allowed exact attrs ≡ true → read_or [] (allowed_attrs_in exact) (if_some attrs_shown attrs) ≡ Some attrs
 attrs_or exact [] p f = refl
 attrs_or exact (a ∷ attrs) p f = allowed_back exact (a ∷ attrs) p f
 
-marks_or : (exact : Bool) (marks : List Mark) → AreMarks exact marks → read_or [] (marks_in exact) (if_some marks_shown marks) ≡ Some marks
+pub marks_or : (exact : Bool) (marks : List Mark) → AreMarks exact marks → read_or [] (marks_in exact) (if_some marks_shown marks) ≡ Some marks
 marks_or exact [] p = refl
 marks_or exact (m ∷ marks) p = marks_back exact (m ∷ marks) p
 
 white_back : (pre : List ℕ) → IsWhite pre → white_in (json_text pre) ≡ Some pre
 white_back pre p = ap (such_that is_white) (text_back pre p.text) ∙ passes is_white pre p.white
 
-white_or : (pre : List ℕ) → IsWhite pre → read_or [] white_in (if_some json_text pre) ≡ Some pre
+pub white_or : (pre : List ℕ) → IsWhite pre → read_or [] white_in (if_some json_text pre) ≡ Some pre
 white_or [] p = refl
 white_or (c ∷ pre) p = white_back (c ∷ pre) p
 
@@ -77,12 +77,12 @@ closing_back kind pre e white may =
 
 -- ---- runs
 
-run_back : (marks : List Mark) (text : List ℕ) → AreMarks false marks → IsText text → items_in false (run_shown marks text) ≡ Some (text_pieces marks text)
-run_back [] text ms t = ap (option_map (text_pieces [])) (text_back text t)
-run_back (m ∷ marks) text ms t =
+run_back : (exact : Bool) (marks : List Mark) (text : List ℕ) → AreMarks exact marks → IsText text → items_in exact (run_shown marks text) ≡ Some (text_pieces marks text)
+run_back exact [] text ms t = ap (option_map (text_pieces [])) (text_back text t)
+run_back exact (m ∷ marks) text ms t =
     let inner : List ℕ → Option (List Mark) → Option (List PlainItem) = λ cs o. option_and_then (λ ns. Some (text_pieces ns cs)) o in
-    ap (λ o. option_and_then (λ cs. inner cs (marks_in false (marks_shown (m ∷ marks)))) o) (text_back text t)
-    ∙ ap (inner text) (marks_back false (m ∷ marks) ms)
+    ap (λ o. option_and_then (λ cs. inner cs (marks_in exact (marks_shown (m ∷ marks)))) o) (text_back text t)
+    ∙ ap (inner text) (marks_back exact (m ∷ marks) ms)
 
 any_append : (xs ys : List ℕ) → list_any is_barred xs ≡ false → list_any is_barred ys ≡ false → list_any is_barred (xs ++ ys) ≡ false
 any_append xs ys p q = list_any-append is_barred xs ys ∙ (λ i. p i || q i)
@@ -96,63 +96,65 @@ longer c text one more = record {
 -- ---- the list
 
 -- values that are read as these items
-pub record Backs (values : List Data) (items : List PlainItem) : Type 0 where
+pub record Backs (exact : Bool) (values : List Data) (items : List PlainItem) : Type 0 where
   pub lists : List (List PlainItem)
-  pub are : all_read (items_in false) values ≡ Some lists
+  pub are : all_read (items_in exact) values ≡ Some lists
   pub whole : items ≡ one_list lists
 
-one_back : (json : Data) (more : List Data) (xs items : List PlainItem) → items_in false json ≡ Some xs → Backs more items → Backs (json ∷ more) (xs ++ items)
-one_back json more xs items h b = record {
+pub one_back : (exact : Bool) (json : Data) (more : List Data) (xs items : List PlainItem) → items_in exact json ≡ Some xs → Backs exact more items → Backs exact (json ∷ more) (xs ++ items)
+one_back exact json more xs items h b = record {
   lists = xs ∷ b.lists;
-  are = ap (λ o. option_and_then (λ y. option_map (λ ys. y ∷ ys) (all_read (items_in false) more)) o) h ∙ ap (λ o. option_map (λ ys. xs ∷ ys) o) b.are;
+  are = ap (λ o. option_and_then (λ y. option_map (λ ys. y ∷ ys) (all_read (items_in exact) more)) o) h ∙ ap (λ o. option_map (λ ys. xs ∷ ys) o) b.are;
   whole = ap (λ r. xs ++ r) b.whole;
 }
 
 -- a run and what follows it
-pub record RunBacks (marks : List Mark) (text : List ℕ) (later : List Data) (items : List PlainItem) : Type 0 where
-  pub marked : AreMarks false marks
+pub record RunBacks (exact : Bool) (marks : List Mark) (text : List ℕ) (later : List Data) (items : List PlainItem) : Type 0 where
+  pub marked : AreMarks exact marks
   pub text_is : IsText text
   pub suffix : List PlainItem
-  pub rest : Backs later suffix
+  pub rest : Backs exact later suffix
   pub parts : items ≡ text_pieces marks text ++ suffix
 
-abbrev Back : Shown → List PlainItem → Type 0
-Back (Together marks text later) items = RunBacks marks text later items
-Back (Apart later) items = Backs later items
+abbrev pub Back : (exact : Bool) → Shown → List PlainItem → Type 0
+Back exact (Together marks text later) items = RunBacks exact marks text later items
+Back exact (Apart later) items = Backs exact later items
 
-all_back : (s : Shown) (items : List PlainItem) → Back s items → Backs (all_shown s) items
-all_back (Apart later) items b = b
-all_back (Together marks text later) items b =
-    subst (Backs (run_shown marks text ∷ later)) (sym b.parts) (one_back (run_shown marks text) later (text_pieces marks text) b.suffix (run_back marks text b.marked b.text_is) b.rest)
+pub all_back : (exact : Bool) (s : Shown) (items : List PlainItem) → Back exact s items → Backs exact (all_shown s) items
+all_back exact (Apart later) items b = b
+all_back exact (Together marks text later) items b =
+    subst (Backs exact (run_shown marks text ∷ later)) (sym b.parts)
+    (one_back exact (run_shown marks text) later (text_pieces marks text) b.suffix (run_back exact marks text b.marked b.text_is) b.rest)
 
-char_back : (c : ℕ) (marks : List Mark) (s : Shown) (items : List PlainItem) → IsText (c ∷ []) → AreMarks false marks → Back s items → Back (char_shown c marks s) (Char c marks ∷ items)
-char_back c marks (Apart later) items one ms b = record { marked = ms; text_is = one; suffix = items; rest = b; parts = refl }
-char_back c marks (Together others text later) items one ms b = by (marks_same marks others) refl
+pub char_back : (exact : Bool) (c : ℕ) (marks : List Mark) (s : Shown) (items : List PlainItem) → IsText (c ∷ []) → AreMarks exact marks → Back exact s items →
+    Back exact (char_shown c marks s) (Char c marks ∷ items)
+char_back exact c marks (Apart later) items one ms b = record { marked = ms; text_is = one; suffix = items; rest = b; parts = refl }
+char_back exact c marks (Together others text later) items one ms b = by (marks_same marks others) refl
   where
     by : (same : Bool) → marks_same marks others ≡ same →
-        Back (if same then Together others (c ∷ text) later else Together marks (c ∷ []) (run_shown others text ∷ later)) (Char c marks ∷ items)
+        Back exact (if same then Together others (c ∷ text) later else Together marks (c ∷ []) (run_shown others text ∷ later)) (Char c marks ∷ items)
     by true e =
         let equal : marks ≡ others = Means-marks_same.equal marks others e in
         record { marked = b.marked; text_is = longer c text one b.text_is; suffix = b.suffix; rest = b.rest; parts = λ i. Char c (equal i) ∷ b.parts i }
-    by false e = record { marked = ms; text_is = one; suffix = items; rest = all_back (Together others text later) items b; parts = refl }
+    by false e = record { marked = ms; text_is = one; suffix = items; rest = all_back exact (Together others text later) items b; parts = refl }
 
-shown_back : (items : List PlainItem) → AllByRecursion CanWrite items → Back (as_shown items) items
+shown_back : (items : List PlainItem) → AllByRecursion CanWrite items → Back false (as_shown items) items
 shown_back [] p = record { lists = []; are = refl; whole = refl }
-shown_back (Char c marks ∷ items) p = char_back c marks (as_shown items) items (p.0).0 (p.0).1 (shown_back items p.1)
+shown_back (Char c marks ∷ items) p = char_back false c marks (as_shown items) items (p.0).0 (p.0).1 (shown_back items p.1)
 shown_back (Opening kind head marks pre origin generated ∷ items) p =
     let w = p.0 in
     let same : object (opened kind head.attrs marks pre) ≡ object (opening_shown kind head marks pre origin generated) = λ i. object (opening_shown kind (sym w.1 i) marks pre (sym w.7 i) (sym w.8 i)) in
     let item : ◌≡◌ {A = List PlainItem} (Opening kind (plain_head head.attrs) marks pre None false ∷ []) (Opening kind head marks pre origin generated ∷ []) = λ i. Opening kind (sym w.1 i) marks pre (sym w.7 i) (sym w.8 i) ∷ [] in
     let read : items_in false (object (opening_shown kind head marks pre origin generated)) ≡ Some (Opening kind head marks pre origin generated ∷ []) =
     ap (items_in false) (sym same) ∙ opening_back kind head.attrs marks pre w.0 w.2 w.3 w.4 w.5 w.6 ∙ ap (λ xs. Some xs) item in
-    one_back (object (opening_shown kind head marks pre origin generated)) (all_shown (as_shown items)) (Opening kind head marks pre origin generated ∷ []) items read (all_back (as_shown items) items (shown_back items p.1))
+    one_back false (object (opening_shown kind head marks pre origin generated)) (all_shown (as_shown items)) (Opening kind head marks pre origin generated ∷ []) items read (all_back false (as_shown items) items (shown_back items p.1))
 shown_back (Closing kind pre ∷ items) p =
     let w = p.0 in
-    one_back (object (closing_shown kind pre)) (all_shown (as_shown items)) (Closing kind pre ∷ []) items (closing_back kind pre w.0 w.1 w.2) (all_back (as_shown items) items (shown_back items p.1))
+    one_back false (object (closing_shown kind pre)) (all_shown (as_shown items)) (Closing kind pre ∷ []) items (closing_back kind pre w.0 w.1 w.2) (all_back false (as_shown items) items (shown_back items p.1))
 
 pub shown_is_read : ShownIsRead
 shown_is_read items p =
-    let b = all_back (as_shown items) items (shown_back items p) in
+    let b = all_back false (as_shown items) items (shown_back items p) in
     ap (λ values. option_map one_list (all_read (items_in false) values)) (listed_back (all_shown (as_shown items)))
     ∙ ap (option_map one_list) b.are
     ∙ ap (λ xs. Some xs) (sym b.whole)

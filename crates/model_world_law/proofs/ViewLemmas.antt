@@ -1,12 +1,12 @@
 -- What a site would tell leads from the list that it told last, line by line.
-use Rattle.std.proofs.Common.{◌≡◌, ℕ, nat_lt, Bool, true, false, List, [], ◌∷◌, ◌++◌, length, slice_get, Option, Some, None, Result, Ok, Err, refl, sym, ap, subst, append_assoc}
+use Rattle.std.proofs.Common.{◌≡◌, ℕ, nat_lt, Bool, true, false, List, [], ◌∷◌, ◌++◌, length, slice_get, Option, Some, None, Result, Ok, Err, refl, sym, subst}
 use Rattle.model_items.specs.declared.plain_item.PlainItem.{PlainItem}
 use Rattle.model_page.specs.PageItems.{Opened}
 use Rattle.model_site.specs.Replica.{opened_with}
-use Rattle.model_site.specs.Session.{Member, Session, started}
+use Rattle.model_site.specs.Session.{Member, Session}
 use Rattle.model_site.specs.Site.{told}
 use Rattle.model_site_law.specs.Protocol.{SessionHolds}
-use Rattle.model_site_law.specs.ViewLaws.{IsViewOf, patched, told_last, whole}
+use Rattle.model_site_law.specs.ViewLaws.{patched, told_last, whole}
 use Rattle.model_site_law.proofs.LawLemmas.{holds_in_end}
 use Rattle.model_site_law.proofs.ShownLemmas.{view_from_shows}
 use Rattle.model_site_law.proofs.ToldLemmas.{Of, run_leads, starts_of, told_shows}

@@ -7,3 +7,5 @@ pub mod ViewLines
 pub mod ShownLaws
 pub mod Redone
 pub mod Pasted
+pub mod AheadLaws
+pub mod PutBack

@@ -13,7 +13,7 @@ use Rattle.model_site.specs.Live.{live}
 use Rattle.model_site.specs.Site.{Site, pending, entries_of, hinted_entries, revoke_entry, undo, with_entry}
 use Rattle.model_site.specs.Session.{SiteFeed, Ack, Member, Session, started}
 use Rattle.model_site.specs.Events.{Event, Tell, run}
-use Rattle.model_site_law.specs.Laws.{IsListBefore, IsWithout, IsWithoutAmong}
+use Rattle.model_site_law.specs.Laws.{HintsBeside, IsListBefore, IsWithout, IsWithoutAmong}
 use Rattle.model_site_law.specs.Sound.{Sound, AllIn, AllMayRun, Opens}
 use Rattle.model_site_law.specs.MayHappen.{AllMayHappen}
 use Rattle.model_site_law.specs.Protocol.{Every}
@@ -85,6 +85,8 @@ pub record SiteHolds (base : Replica) (w : Session) (m : Member) : Type 0 where
   pub runs : AllRun (flattened (entries_of w.committed m.site)) base.items
   -- it has seen no more entries than are committed
   pub seen : m.site.seen ≤ length w.committed
+  -- beside each entry that is committed, submitted, undone or known stands what it takes back
+  pub beside : HintsBeside w m
   -- its store has every value that its list cites, and has each value once
   pub stored : AllIn m.site.replica.store (cited m.site.replica.items)
   pub distinct : AreDistinct m.site.replica.store

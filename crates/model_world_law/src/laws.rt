@@ -7,6 +7,8 @@ ghost use Rattle.model_world_law.specs.Pasted.{FragmentsAreChildren, PastingStay
 ghost use Rattle.model_world_law.specs.ShownLaws.{ShownIsRead};
 ghost use Rattle.model_world_law.specs.Redone.{LinesRedo};
 ghost use Rattle.model_world_law.specs.ViewLines.{LinesShow};
+ghost use Rattle.model_world_law.specs.PutBack.{ExactIsRead, PutBackStays};
+ghost use Rattle.model_world_law.specs.AheadLaws.{LinesOfTwoSitesSwap};
 ghost use Rattle.model_world_law.specs.Reached.{EveryItemStands, EveryWorldIsReached, EverySiteHolds, QuietSitesMeet, SitesMeet, UneditedIsWrittenBack};
 
 use model_edit_law::fragment_stays_lawful;
@@ -30,6 +32,13 @@ pub fn layers_fit()
 #[tactic(auto, using(crate::proofs::ShownItemLemmas::shown_is_read))]
 pub fn shown_is_read()
     ensures { ShownIsRead }
+{}
+
+/// Items that a reply shows are read back by a line with `exact`, but for the heads of leaves that no
+/// tag spells. A range that is removed, and put back as it is shown, leaves the list as it is.
+pub fn put_back_stays()
+    ensures read { ExactIsRead }
+    ensures stays { PutBackStays }
 {}
 
 /// Want of memory is never the cause of a refusal of a change, a row, a column or a moved list
@@ -101,6 +110,12 @@ pub fn lines_redo()
 /// the list.
 pub fn lines_show()
     ensures { LinesShow }
+{}
+
+/// Two lines that name two different sites may come in either order, unless the server has its turn
+/// in one of them and the other is a turn, too. Each has the same reply, and one world comes of them.
+pub fn lines_of_two_sites_swap()
+    ensures { LinesOfTwoSitesSwap }
 {}
 
 /// Sites that have seen as much, and have nothing pending, have one list, and so write one page.

@@ -421,9 +421,9 @@ impl Editor {
 
     /// Performs another's parcel, and gives it as an entry. That has the same transactions over
     /// this store, with the positions of the attributes that they remove, and the lengths of the
-    /// store before and after. Each transaction has to apply to the result of those before it, and
-    /// to leave a lawful list. The limits of items and of values don't bind it. An `Err` changes
-    /// nothing.
+    /// store before and after; it takes back what the parcel does. Each transaction has to apply to
+    /// the result of those before it, and to leave a lawful list. The limits of items and of values
+    /// don't bind it. An `Err` changes nothing.
     pub fn admit<L: Ledger>(
         &mut self,
         parcel: &Parcel,

@@ -10,9 +10,10 @@
 //!
 //! The view of an `Editor` is the model's `Replica` (model_site), by value, and the tree's nodes by
 //! their numbers (`LinkedPage`). `perform` is the model's `performed`, with the entry `entry_of` and
-//! the refusal of `edit_cause`. `admit` is `all_performed` of another's parcel, with its `entry_of`;
-//! `revert` is `reverted`. The type keeps that the list is lawful, and that the tree is the list's.
-//! Each value that is cited is in the store and of the right sort (`IsPage`).
+//! the refusal of `edit_cause`. `admit` is `all_performed` of another's parcel, with the entry
+//! `entry_against` what the parcel takes back; `revert` is `reverted`. The type keeps that the list
+//! is lawful, and that the tree is the list's. Each value that is cited is in the store and of the
+//! right sort (`IsPage`).
 //!
 //! The tree becomes that of the new list as the last step that may fail, before the list itself
 //! changes (`ve_repair::relink`); after it the list takes no memory. At want of memory the list,

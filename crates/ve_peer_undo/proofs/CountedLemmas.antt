@@ -1,11 +1,11 @@
 -- The entries that count, kept as parcels with their numbers beside them.
-use Rattle.std.proofs.Common.{◌≡◌, ◌<◌, ◌==◌, ℕ, zero, suc, Bool, true, false, if◌then◌else◌, List, [], ◌∷◌, ◌++◌, length, map, take, drop, get_or, All, Option, Some, None, option_map, Result, Ok, Err, refl, sym, ap, ◌∙◌, subst, arith}
+use Rattle.std.proofs.Common.{◌≡◌, ℕ, true, false, if◌then◌else◌, List, [], ◌∷◌, ◌++◌, length, map, take, drop, Some, None, Ok, refl, sym, ap, ◌∙◌, subst, arith}
 use Rattle.std.proofs.Math.Seq.{drop-append_seam, take-append_seam}
 use Rattle.std.proofs.lemmas.List.{length-map}
 use Rattle.model_change.specs.Join.{join_list}
 use Rattle.model_change.specs.Replay.{reversal}
 use Rattle.model_change.specs.Transaction.{Transaction}
-use Rattle.model_site.specs.Live.{Standing, all_alike, all_standing, left_by, left_without, with_txs, without}
+use Rattle.model_site.specs.Live.{all_alike, all_standing, left_by, left_without, with_txs}
 use Rattle.ve_tx.specs.declared.parcel.Parcel.{Parcel}
 use Rattle.ve_tx.specs.ByValue.{parcel_by_value}
 use Rattle.ve_tx.specs.Operation.{by_value}

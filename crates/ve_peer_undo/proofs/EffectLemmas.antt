@@ -1,5 +1,5 @@
 -- That parcels are equal, as they are compared, means that they have one effect.
-use Rattle.std.proofs.Common.{◌≡◌, ◌≢◌, ◌<◌, ◌==◌, ℕ, Bool, true, false, not, ◌&&◌, if◌then◌else◌, List, [], ◌∷◌, length, map, slice_get, All, Option, Some, None, is_some, refl, sym, ap, ◌∙◌, subst}
+use Rattle.std.proofs.Common.{◌≡◌, ◌==◌, ℕ, Bool, true, false, not, ◌&&◌, if◌then◌else◌, List, [], ◌∷◌, map, All, Option, Some, None, is_some, refl, sym, ap, ◌∙◌, subst}
 use Rattle.std.proofs.lemmas.Bool.{and_from, and_parts}
 use Rattle.std.proofs.lemmas.List.Elements.{All-cons, All-head, All-nil, All-tail}
 use Rattle.std.proofs.lemmas.Option.{slice_get_within}
@@ -11,13 +11,14 @@ use Rattle.model_items.specs.declared.item.Item.TheVariants as item
 use Rattle.model_items.specs.declared.plain_item.PlainItem.{PlainItem}
 use Rattle.model_items.specs.declared.plain_item.PlainItem.TheVariants as plain_item
 use Rattle.model_items.specs.Plain.{CitesHead, CitesMarks, CitesWell, CitesWhite, head_in, marks_in, plain, value_at, white_in}
-use Rattle.model_items.specs.Same.{Means, item_same, list_same, option_same, text_same}
+use Rattle.model_items.specs.Same.{item_same, list_same, option_same, text_same}
 use Rattle.model_items.proofs.SameLemmas.{Means-item_same, Means-nat, Means-option_same, Means-text_same}
 use Rattle.model_change.specs.Attributes.{AttrChange}
 use Rattle.model_site.specs.Live.{all_alike, change_alike, op_alike}
 use Rattle.ve_tx.specs.Cites.{OperationCites, TxCites}
+use Rattle.ve_tx.specs.Copied.{Stands}
 use Rattle.ve_tx.specs.Operation.{Operation, Retain, Replace, Attribute, by_value, operation_by_value}
-use Rattle.ve_peer_undo.specs.Alike.{AreCited, IsCited, OpIsCited, Seen, SeenOp, seen, seen_op, seen_tx, settled}
+use Rattle.ve_peer_undo.specs.Alike.{AreCited, OpIsCited, Seen, SeenOp, seen, seen_op, seen_tx, settled}
 use Rattle.ve_peer_undo.specs.Alike as alike
 
 -- ---- what is compared tells what is asked
@@ -34,8 +35,7 @@ module _ {A B C S : Type 0} (same : C → C → Bool) (f : A → C) (g : B → C
   lists_told (x ∷ xs) [] p q = (λ h. absurd (cc), λ h. absurd (cc))
   lists_told (x ∷ xs) (y ∷ ys) p q =
       let one = each x y (All-head P x xs p) (All-head Q y ys q) in
-      let rest = lists_told xs ys (All-tail P x xs p) (All-tail Q y ys q) in
-      (
+      let rest = lists_told xs ys (All-tail P x xs p) (All-tail Q y ys q) in (
         λ h.
             let two = and_parts (same (f x) (g y)) (list_same same (map f xs) (map g ys)) h in
             ap (λ z. z ∷ map s xs) (one.0 two.0) ∙ ap (λ zs. t y ∷ zs) (rest.0 two.1),
@@ -130,8 +130,7 @@ removes c = is_some c.from && not (is_some c.to)
 
 changes_told : (c d : AttrChange) → Tells (change_alike c d) (alike.Changed (settled c)) (alike.Changed (settled d))
 changes_told c d =
-    let texts = Means-option_same text_same Means-text_same in
-    (
+    let texts = Means-option_same text_same Means-text_same in (
       λ h.
           let p = and_parts (text_same c.name d.name) _ h in
           let q = and_parts (option_same text_same c.from d.from) _ p.1 in
@@ -165,8 +164,7 @@ ops_told V W (Retain m) (Retain n) c d = (λ h. ap (λ z. alike.Retained z) (Mea
 ops_told V W (Replace removed inserted) (Replace removed' inserted') c d =
     let all = lists_told item_same (plain V) (plain W) (seen V) (seen W) (CitesWell V) (CitesWell W) (items_told V W) in
     let out = all removed removed' c.0 d.0 in
-    let in_ = all inserted inserted' c.1 d.1 in
-    (
+    let in_ = all inserted inserted' c.1 d.1 in (
       λ h.
           let two = and_parts (list_same item_same (map (plain V) removed) (map (plain W) removed')) _ h in
           ap (λ z. alike.Replaced z (map (seen V) inserted)) (out.0 two.0) ∙ ap (λ z. alike.Replaced (map (seen W) removed') z) (in_.0 two.1),
@@ -208,15 +206,15 @@ lent_told V V' W W' ts ts' us us' r v t w u c d told =
 
 -- ---- what is cited stands in the list
 
-marks_stand : (V : List Value) (a : Option ValueId) → CitesMarks V a → IsCited V a
+marks_stand : (V : List Value) (a : Option ValueId) → CitesMarks V a → Stands V a
 marks_stand V None c = tt
 marks_stand V (Some id) c = slice_get_within V id.0 (value.Marks c.0) c.1
 
-head_stands : (V : List Value) (a : Option ValueId) → CitesHead V a → IsCited V a
+head_stands : (V : List Value) (a : Option ValueId) → CitesHead V a → Stands V a
 head_stands V None c = tt
 head_stands V (Some id) c = slice_get_within V id.0 (value.Head c.0) c.1
 
-white_stands : (V : List Value) (a : Option ValueId) → CitesWhite V a → IsCited V a
+white_stands : (V : List Value) (a : Option ValueId) → CitesWhite V a → Stands V a
 white_stands V None c = tt
 white_stands V (Some id) c = slice_get_within V id.0 (value.White c.0) c.1
 

@@ -8,3 +8,4 @@ mod CountedLemmas
 mod PositionLemmas
 mod TakenOutLemmas
 mod PassedLemmas
+mod WalkLemmas

@@ -1,21 +1,12 @@
 -- One more entry, and all of them: which count behind the first.
-use Rattle.std.proofs.Common.{◌≡◌, ◌<◌, ◌+◌, ℕ, zero, suc, Bool, true, false, if◌then◌else◌, List, [], ◌∷◌, ◌++◌, length, map, drop, get_or, All, Option, Some, None, Result, Ok, Err, refl, sym, ap, ◌∙◌, subst, append_assoc, arith}
+use Rattle.std.proofs.Common.{◌≡◌, ℕ, List, [], ◌∷◌, ◌++◌, length, Some, None, refl, sym, ap, ◌∙◌, arith}
 use Rattle.std.proofs.lemmas.List.{length-append}
 use Rattle.std.proofs.lemmas.List.Elements.{All-append, All-cons, All-nil}
-use Rattle.model_items.specs.declared.plain_item.PlainItem.{PlainItem}
-use Rattle.model_change.specs.Replay.{AllRun, flattened, replay, reversal}
-use Rattle.model_change.specs.Transaction.{Transaction}
-use Rattle.model_change.proofs.ReversalLaw.{reversal_undoes}
-use Rattle.model_site.specs.Live.{Hinted, Standing, all_standing, is_back, live_from, or_last, stand, unhinted, without_hint}
-use Rattle.model_site_law.specs.Sound.{Sound}
-use Rattle.model_site_law.proofs.LiveLemmas.{Stands, all_standing-append, stand_stands}
-use Rattle.model_site_law.proofs.ReplayLemmas.{AllRun-parts, sound_after}
+use Rattle.model_site.specs.Live.{Standing, or_last, stand, without_hint}
 use Rattle.ve_tx.specs.declared.parcel.Parcel.{Parcel}
 use Rattle.ve_tx.specs.ByValue.{parcel_by_value, ParcelCites}
-use Rattle.ve_rebase.specs.Lists.{RunFromOneLength}
-use Rattle.ve_peer_undo.specs.Counted.{AreKept, counted, EachMayLeave, IsTakenOut}
+use Rattle.ve_peer_undo.specs.Counted.{AreKept, counted}
 use Rattle.ve_peer_undo.specs.Counting.{hinted_parcel}
-use Rattle.ve_peer_undo.proofs.RunLemmas.{runs_on}
 
 -- ---- one more
 

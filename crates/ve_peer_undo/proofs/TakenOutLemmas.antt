@@ -1,10 +1,10 @@
 -- An entry taken out of those that count.
-use Rattle.std.proofs.Common.{◌≡◌, ◌<◌, ◌≤◌, ◌+◌, ◌-◌, ℕ, suc, true, List, [], ◌∷◌, ◌++◌, length, take, drop, get_or, All, Option, Some, None, option_map, refl, sym, ap, ◌∙◌, subst, arith}
+use Rattle.std.proofs.Common.{◌≡◌, ◌<◌, ◌+◌, ◌-◌, ℕ, suc, List, ◌++◌, length, take, drop, get_or, All, Option, Some, None, option_map, sym, ap, ◌∙◌, subst, arith}
 use Rattle.std.proofs.lemmas.List.{length-append, length-drop, length-take-le, take_all}
 use Rattle.std.proofs.lemmas.List.Elements.{All-append, All-drop, All-take}
 use Rattle.model_change.specs.Replay.{reversal}
 use Rattle.model_change.specs.Transaction.{Transaction}
-use Rattle.model_site.specs.Live.{Standing, all_standing, left_without, without}
+use Rattle.model_site.specs.Live.{all_standing, left_without, without}
 use Rattle.ve_tx.specs.declared.parcel.Parcel.{Parcel}
 use Rattle.ve_tx.specs.ByValue.{parcel_by_value, ParcelCites}
 use Rattle.ve_rebase.specs.Entries.{parcels_by_value}

@@ -1,12 +1,12 @@
 -- Transactions that have one effect, each over its own list of values: for private functions.
-use Rattle.std.specs.Prelude.{◌≡◌, ℕ, ◌<◌, Bool, true, false, not, ◌&&◌, List, length, map, All, is_some, if◌then◌else◌, Option, Some, None}
+use Rattle.std.specs.Prelude.{ℕ, Bool, not, ◌&&◌, List, map, All, is_some, if◌then◌else◌, Option, None}
 use Rattle.ve_base.specs.declared.value.Value.{Value}
-use Rattle.ve_base.specs.declared.value.ValueId.{ValueId}
 use Rattle.ve_kinds.specs.declared.kind.Kind.{Kind}
 use Rattle.model_items.specs.declared.item.Item.{Item}
 use Rattle.model_items.specs.declared.item.Item.TheVariants as item
 use Rattle.model_items.specs.Plain.{value_at}
 use Rattle.model_change.specs.Attributes.{AttrChange}
+use Rattle.ve_tx.specs.Copied.{Stands}
 use Rattle.ve_tx.specs.Operation.{Operation, Retain, Replace, Attribute}
 
 -- an item with the values that it cites
@@ -22,14 +22,10 @@ seen values (item.Opening kind generated head marks pre origin) =
 seen values (item.Closing kind pre) = Closing kind (value_at values pre)
 
 -- what is cited stands in the list
-abbrev pub IsCited : List Value → Option ValueId → Type 0
-IsCited values None = Unit {0}
-IsCited values (Some id) = id.0 < length values
-
 abbrev pub AreCited : List Value → Item → Type 0
-AreCited values (item.Char ch marks) = IsCited values marks
-AreCited values (item.Opening kind generated head marks pre origin) = IsCited values head × IsCited values marks × IsCited values pre
-AreCited values (item.Closing kind pre) = IsCited values pre
+AreCited values (item.Char ch marks) = Stands values marks
+AreCited values (item.Opening kind generated head marks pre origin) = Stands values head × Stands values marks × Stands values pre
+AreCited values (item.Closing kind pre) = Stands values pre
 
 -- the position that an attribute operation keeps; none where it removes its attribute
 abbrev pub settled_kept : (from to : Option (List ℕ)) → Option ℕ → Option ℕ

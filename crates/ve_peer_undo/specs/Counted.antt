@@ -2,7 +2,7 @@
 use Rattle.std.specs.Prelude.{◌≡◌, ℕ, suc, Bool, true, false, ◌==◌, if◌then◌else◌, List, [], ◌∷◌, ◌++◌, length, All, Option, Some, None, option_map}
 use Rattle.model_change.specs.Replay.{reversal}
 use Rattle.model_change.specs.Transaction.{Transaction}
-use Rattle.model_site.specs.Live.{Hinted, Standing, all_standing, is_back, left_without, stand, without_hint}
+use Rattle.model_site.specs.Live.{Standing, all_standing, left_without, without_hint}
 use Rattle.ve_tx.specs.declared.parcel.Parcel.{Parcel}
 use Rattle.ve_tx.specs.ByValue.{parcel_by_value, ParcelCites}
 use Rattle.ve_rebase.specs.Lists.{RunFromOneLength}

@@ -1,5 +1,5 @@
 -- The walk over the entries behind the first: for private functions.
-use Rattle.std.specs.Prelude.{◌≡◌, ℕ, suc, ◌+◌, List, [], ◌∷◌, length, map, drop, Ok, Err, Result}
+use Rattle.std.specs.Prelude.{◌≡◌, ℕ, suc, List, [], ◌∷◌, map, Ok, Err, Result}
 use Rattle.model_change.specs.Replay.{reversal}
 use Rattle.model_change.specs.Transaction.{Transaction}
 use Rattle.model_site.specs.Live.{Standing, live_from}

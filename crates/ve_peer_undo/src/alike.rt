@@ -3,8 +3,9 @@ ghost use Rattle.std.specs.Prelude.{◌≡◌, ◌↔◌, IsTrue, All, map};
 ghost use Rattle.model_items.specs.Plain.{value_at};
 ghost use Rattle.model_site.specs.Live.{all_alike};
 ghost use Rattle.ve_tx.specs.ByValue.{parcel_by_value, ParcelCites};
+ghost use Rattle.ve_tx.specs.Copied.{Stands};
 ghost use Rattle.ve_tx.specs.Operation.{with_position};
-ghost use Rattle.ve_peer_undo.specs.Alike.{AreCited, IsCited, OpIsCited, seen, seen_op, seen_tx, settled_kept};
+ghost use Rattle.ve_peer_undo.specs.Alike.{AreCited, OpIsCited, seen, seen_op, seen_tx, settled_kept};
 
 use model_items::Item;
 use ve_base::{Same, Text, Value, ValueId};
@@ -17,8 +18,8 @@ fn same_value(
     others: &[Value],
     other: Option<ValueId>,
 ) -> bool
-    requires one { IsCited values.now one }
-    requires other { IsCited others.now other }
+    requires one { Stands values.now one }
+    requires other { Stands others.now other }
     ensures { IsTrue result ↔ (value_at values.now one ≡ value_at others.now other) }
 {
     match (one, other) {
@@ -108,11 +109,7 @@ fn same_items(values: &[Value], one: &[Item], others: &[Value], other: &[Item]) 
 }
 
 /// The position that an attribute operation keeps; none where it removes its attribute.
-fn settled_position(
-    from: &Option<Text>,
-    to: &Option<Text>,
-    kept: Option<usize>,
-) -> Option<usize>
+fn settled_position(from: &Option<Text>, to: &Option<Text>, kept: Option<usize>) -> Option<usize>
     ensures { result ≡ settled_kept from.now to.now kept }
 {
     if from.is_some() && to.is_none() {
@@ -156,7 +153,12 @@ fn same_op(
             },
         ) => {
             same_items(values, removed.as_slice(), others, other_removed.as_slice())
-                && same_items(values, inserted.as_slice(), others, other_inserted.as_slice())
+                && same_items(
+                    values,
+                    inserted.as_slice(),
+                    others,
+                    other_inserted.as_slice(),
+                )
         }
         (
             Op::Attribute { name, from, to },
@@ -197,7 +199,14 @@ fn same_transaction(
         return false;
     }
     for k in 0..ops.len() {
-        if !same_op(values, &ops[k], one.kept(k), others, &other_ops[k], other.kept(k)) {
+        if !same_op(
+            values,
+            &ops[k],
+            one.kept(k),
+            others,
+            &other_ops[k],
+            other.kept(k),
+        ) {
             return false;
         }
     }

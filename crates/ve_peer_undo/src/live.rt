@@ -10,9 +10,9 @@ ghost use Rattle.ve_peer_undo.specs.Counting.{hinted_parcel, revoke_first, RunFr
 ghost use Rattle.ve_peer_undo.specs.Refusal.{IsLiveRefusal};
 ghost use Rattle.ve_peer_undo.specs.Walked.{AreCounted, IsCounted};
 
+use crate::LiveFault;
 use crate::alike::have_one_effect;
 use crate::undo::{inverse_of, over_later};
-use crate::LiveFault;
 use std::alloc::Global;
 use std::mem::replace;
 use ve_base::{Memory, TryCopy};
@@ -183,7 +183,14 @@ fn counting(
             return Err(LiveFault::Memory);
         };
         let entry = &entries[k];
-        if takes_first(alloc, number, &entries[0], entry, numbers.as_slice(), &parcels)? {
+        if takes_first(
+            alloc,
+            number,
+            &entries[0],
+            entry,
+            numbers.as_slice(),
+            &parcels,
+        )? {
             return Err(LiveFault::TakenBack { by: next });
         }
         pass(alloc, &mut numbers, &mut parcels, next, entry)?;

@@ -41,7 +41,11 @@ pub(crate) fn inverse_of(alloc: Global, parcel: &Parcel) -> Result<Parcel, Memor
 }
 
 /// A parcel joined over later ones, which are moved along and never written out.
-pub(crate) fn over_later(alloc: Global, later: &[Parcel], back: &Parcel) -> Result<Parcel, RevokeFault>
+pub(crate) fn over_later(
+    alloc: Global,
+    later: &[Parcel],
+    back: &Parcel,
+) -> Result<Parcel, RevokeFault>
     requires run { RunFromOneLength (parcels_by_value later.now) (parcel_by_value back.now) }
     requires cites { ParcelCites back.now }
     ensures joined { IfOk result (λ made.

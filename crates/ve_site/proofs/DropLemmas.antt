@@ -81,7 +81,7 @@ nothing = none_untold 0
 -- over either of two stores that go on from one that it cites, an entry is the same
 pub same_over : (base one other : List Value) (e : Entry) → Extends base one → Extends base other → EntryCites base e → entry_by_value one e ≡ entry_by_value other e
 same_over base one other e more others cites =
-    ap (λ txs. record { txs = txs; store_before = e.store_before; store_after = e.store_after })
+    ap (λ txs. record { txs = txs; store_before = e.store_before; store_after = e.store_after; takes_back = e.takes_back })
     (all_by_value-extended base one more e.txs cites ∙ sym (all_by_value-extended base other others e.txs cites))
 
 module _ (old now : Replica) (left gone : List Entry) (e : Entry) (d : AreDropped old (left ++ e ∷ []) gone now) where
@@ -110,7 +110,7 @@ module _ (old now : Replica) (left gone : List Entry) (e : Entry) (d : AreDroppe
       let next : Stacks = record { done = left; undone = parcel ∷ []; spare = 0 } in
       record {
         page = page ∙ (ap (λ x. reverted x now) same ∙ ap (reverted (entry_by_value old.store e)) d.page);
-        stack = stack_is new 0 [] next 0 None (undone_is now nothing 0 [] stack 0 None d.stack e (ends left e) new page parcel next (passed (reversal (entry_by_value now.store e).txs) nothing) refl (but_last left e) refl refl next_cites);
+        stack = stack_is new 0 [] next 0 None (undone_is now nothing 0 [] stack 0 None d.stack e (ends left e) new page parcel next (passed (reversal (entry_by_value now.store e).txs) nothing) refl refl (but_last left e) refl refl next_cites);
         base = take e.store_before d.base;
         old_extends = extends_on (take e.store_before d.base) d.base old.store (prefix_extends e.store_before d.base) d.old_extends;
         now_extends = subst (λ b. Extends b new.store) (prefix_stays d.base now.store e.store_before d.now_extends last.within)

@@ -4,7 +4,7 @@ use Rattle.std.proofs.Common.{◌≡◌, ◌<◌, ◌+◌, ℕ, suc, List, [], �
 use Rattle.std.proofs.lemmas.List.{append-nil, drop_all, length-append, length-map, length-take, take-append-drop}
 use Rattle.model_change.specs.Replay.{AllRun, flattened, replay, reversal}
 use Rattle.model_change.specs.Transaction.{Transaction}
-use Rattle.model_site.specs.Entries.{Entry, Parcel, all_reverted, parcels}
+use Rattle.model_site.specs.Entries.{Entry, Hints, Parcel, all_reverted, hints, parcels}
 use Rattle.model_site.specs.Joined.{Joined, join_entries}
 use Rattle.model_site.specs.Replica.{Replica, all_performed}
 use Rattle.model_site.specs.Site.{Site, pending}
@@ -23,21 +23,23 @@ use Rattle.ve_site.proofs.TakenLemmas.{committed_runs, has_taken, may_take_next}
 
 -- ---- one entry that is in conflict with none
 
--- a site with this replica, told so, which has these pending entries, of which so many are sent
-abbrev pub with_pending : Replica → Untold → (seen sent : ℕ) → List Parcel → Site → Site
-with_pending replica untold seen sent kept s = record s {
+-- a site with this replica, told so, which has these pending entries, of which so many are sent, and
+-- which take these back
+abbrev pub with_pending : Replica → Untold → (seen sent : ℕ) → Hints → List Parcel → Site → Site
+with_pending replica untold seen sent taken kept s = record s {
   replica = replica;
   untold = untold;
   seen = seen;
-  sent = take sent (parcel_entries (length replica.store) kept);
-  unsent = drop sent (parcel_entries (length replica.store) kept);
+  sent = take sent (parcel_entries (length replica.store) taken kept);
+  unsent = drop sent (parcel_entries (length replica.store) taken kept);
   undone = [];
+  undone_hints = [];
 }
 
 -- a site once it took so many such entries: their transactions as they are over the pending ones,
 -- and the pending ones as they are then
 abbrev pub with_front : List Transaction → List Parcel → ℕ → Site → Site
-with_front ts kept count s = with_pending (all_performed ts s.replica) (passed ts s.untold) (s.seen + count) (length s.sent) kept s
+with_front ts kept count s = with_pending (all_performed ts s.replica) (passed ts s.untold) (s.seen + count) (length s.sent) (hints (pending s)) kept s
 
 module _ (foreign : Parcel) (s : Site) (none : (join_entries foreign (parcels (pending s))).clash ≡ None) where
   abbrev j : Joined
@@ -58,7 +60,7 @@ module _ (foreign : Parcel) (s : Site) (none : (join_entries foreign (parcels (p
   pub one_taken : take_entry foreign s ≡ with_front j.committed j.kept 1 s
   one_taken =
       let made : List Entry → ℕ → Site = λ es seen.
-      with_pending (all_performed j.committed (all_reverted es s.replica)) (passed (reversal (flattened (parcels es)) ++ j.committed) s.untold) seen (length s.sent) j.kept s in
+      with_pending (all_performed j.committed (all_reverted es s.replica)) (passed (reversal (flattened (parcels es)) ++ j.committed) s.untold) seen (length s.sent) (hints (pending s)) j.kept s in
       ap (λ es. made es (suc s.seen)) none_dropped ∙ ap (made []) (let e : suc s.seen ≡ s.seen + 1 = omega arith in e)
 
   pub runs : Stands s → AllRun foreign (ground_of s) → AllRun j.committed s.replica.items
@@ -69,28 +71,48 @@ module _ (foreign : Parcel) (s : Site) (none : (join_entries foreign (parcels (p
 
 -- what is pending then
 pub pending_after : (foreign : Parcel) (s : Site) → parcels (pending (take_entry foreign s)) ≡ (join_entries foreign (parcels (pending s))).kept
-pending_after foreign s = ap parcels (take-append-drop (length s.sent) _) ∙ parcels-noted _ (join_entries foreign (parcels (pending s))).kept
+pending_after foreign s = ap parcels (take-append-drop (length s.sent) _) ∙ parcels-noted _ (hints (pending s)) (join_entries foreign (parcels (pending s))).kept
 
 -- ---- one after the other
 
+-- as many entries are noted as there are parcels
+noted_count : (n : ℕ) (taken : Hints) (ps : List Parcel) → length (parcel_entries n taken ps) ≡ length ps
+noted_count n taken [] = refl
+noted_count n taken (p ∷ ps) = ap suc (noted_count n (drop 1 taken) ps)
+
+-- and they take the same back
+noted_hints : (n : ℕ) (taken : Hints) (ps : List Parcel) → length ps ≡ length taken → hints (parcel_entries n taken ps) ≡ taken
+noted_hints n [] [] as_many = refl
+noted_hints n (t ∷ taken) [] as_many = absurd (omega (arith, as_many))
+noted_hints n [] (p ∷ ps) as_many = absurd (omega (arith, as_many))
+noted_hints n (t ∷ taken) (p ∷ ps) as_many = ap (λ ts. t ∷ ts) (noted_hints n taken ps (omega (arith, as_many)))
+
 -- as many are sent as before
-sent_stay : (n : ℕ) (s : Site) (kept : List Parcel) → length kept ≡ length (pending s) → length (take (length s.sent) (parcel_entries n kept)) ≡ length s.sent
+sent_stay : (n : ℕ) (s : Site) (kept : List Parcel) → length kept ≡ length (pending s) → length (take (length s.sent) (parcel_entries n (hints (pending s)) kept)) ≡ length s.sent
 sent_stay n s kept as_many =
-    let cut = length-take (length s.sent) (parcel_entries n kept) in
-    let noted = length-map {B = Entry} kept (λ (p : Parcel). record { txs = p; store_before = n; store_after = n }) in
+    let cut = length-take (length s.sent) (parcel_entries n (hints (pending s)) kept) in
+    let noted = noted_count n (hints (pending s)) kept in
     let whole = length-append s.sent s.unsent in
     omega (arith, cut, noted, whole, as_many)
+
+-- and what the pending ones take back
+hints_stay : (n : ℕ) (s : Site) (kept : List Parcel) → length kept ≡ length (pending s) →
+    hints (take (length s.sent) (parcel_entries n (hints (pending s)) kept) ++ drop (length s.sent) (parcel_entries n (hints (pending s)) kept)) ≡ hints (pending s)
+hints_stay n s kept as_many =
+    ap hints (take-append-drop (length s.sent) (parcel_entries n (hints (pending s)) kept))
+    ∙ noted_hints n (hints (pending s)) kept (as_many ∙ sym (length-map (pending s) (λ (e : Entry). e.takes_back)))
 
 two_fronts : (ts us : List Transaction) (kept later : List Parcel) (m n : ℕ) (s : Site) → length kept ≡ length (pending s) →
     with_front us later n (with_front ts kept m s) ≡ with_front (ts ++ us) later (m + n) s
 two_fronts ts us kept later m n s as_many =
     let first = with_front ts kept m s in
-    let sent = length (take (length s.sent) (parcel_entries (length (all_performed ts s.replica).store) kept)) in
-    ap (λ r. with_pending r (passed us first.untold) (first.seen + n) sent later s) (all_performed-append ts us s.replica)
-    ∙ (ap (λ u. with_pending (all_performed (ts ++ us) s.replica) u (first.seen + n) sent later s) (passed_both ts us s.untold)
-    ∙ (ap (λ k. with_pending (all_performed (ts ++ us) s.replica) (passed (ts ++ us) s.untold) k sent later s) (let e : s.seen + m + n ≡ s.seen + (m + n) = omega arith in e)
-    ∙ ap (λ k. with_pending (all_performed (ts ++ us) s.replica) (passed (ts ++ us) s.untold) (s.seen + (m + n)) k later s)
-    (sent_stay (length (all_performed ts s.replica).store) s kept as_many)))
+    let sent = length first.sent in
+    let both = all_performed (ts ++ us) s.replica in
+    ap (λ r. with_pending r (passed us first.untold) (first.seen + n) sent (hints (pending first)) later s) (all_performed-append ts us s.replica)
+    ∙ (ap (λ u. with_pending both u (first.seen + n) sent (hints (pending first)) later s) (passed_both ts us s.untold)
+    ∙ (ap (λ k. with_pending both (passed (ts ++ us) s.untold) k sent (hints (pending first)) later s) (let e : s.seen + m + n ≡ s.seen + (m + n) = omega arith in e)
+    ∙ (ap (λ k. with_pending both (passed (ts ++ us) s.untold) (s.seen + (m + n)) k (hints (pending first)) later s) (sent_stay (length (all_performed ts s.replica).store) s kept as_many)
+    ∙ ap (λ hs. with_pending both (passed (ts ++ us) s.untold) (s.seen + (m + n)) (length s.sent) hs later s) (hints_stay (length (all_performed ts s.replica).store) s kept as_many))))
 
 -- the entries after the first are in conflict with none as they are once it is taken
 rest_joined : (f : Parcel) (fs : List Parcel) (s : Site) (cs kept : List Parcel) → AreAllJoined fs (join_entries f (parcels (pending s))).kept cs kept →

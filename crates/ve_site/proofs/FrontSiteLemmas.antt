@@ -3,7 +3,7 @@
 use Rattle.std.proofs.Common.{◌≡◌, ◌<◌, ◌+◌, ℕ, List, [], ◌∷◌, ◌++◌, length, map, take, drop, All, Option, refl, sym, ap, ◌∙◌, subst}
 use Rattle.std.proofs.lemmas.List.{length-map, length-take-le, map-append, take-append-drop}
 use Rattle.model_change.specs.Replay.{AllRun, flattened}
-use Rattle.model_site.specs.Entries.{Parcel as ModelParcel, parcels}
+use Rattle.model_site.specs.Entries.{Parcel as ModelParcel, hints, parcels}
 use Rattle.model_site.specs.Replica.{Replica, all_performed}
 use Rattle.model_site.specs.Site.{Site, pending}
 use Rattle.model_site.specs.Take.{take_foreign}
@@ -26,7 +26,7 @@ use Rattle.model_site.specs.Made.{taking_all}
 use Rattle.ve_site.proofs.FrontLemmas.{front_is, front_makes, front_runs, with_pending}
 use Rattle.ve_site.proofs.MakingLemmas.{has_taken_all, may_take_both}
 use Rattle.ve_site.proofs.OverLemmas.{over_cites}
-use Rattle.ve_site.proofs.PendingLemmas.{cites_from, cites_to, over_same, pending_are, written_is, written_same}
+use Rattle.ve_site.proofs.PendingLemmas.{cites_from, cites_to, hints_over, outlined_hints, over_same, pending_are, written_is, written_same}
 use Rattle.ve_site.proofs.StandsLemmas.{all_stand}
 
 -- ---- entries by value
@@ -78,6 +78,12 @@ module _ (editor : Replica) (untold : Untold) (seen : ℕ) (sent : List Entry) (
   pub makes_front : taking_all fs site ≡ flattened cs
   makes_front = front_makes fs site cs ks joined
 
+  -- these take the same back
+  same_hints : hints (map (entry_by_value editor.store) made.kept) ≡ hints (pending site)
+  same_hints =
+      outlined_hints editor.store made.kept (all_over editor.store all) (under.outlines editor.store)
+      ∙ (hints_over editor.store all ∙ ap hints (pending_are editor untold seen sent old shared flight is))
+
   fs_count : length fs ≡ length made.committed
   fs_count = length-map (take (length made.committed) foreign) parcel_by_value ∙ length-take-le (length made.committed) foreign under.within
 
@@ -99,10 +105,11 @@ module _ (editor : Replica) (untold : Untold) (seen : ℕ) (sent : List Entry) (
       pub front_same : site_of new later next first now shared flight ≡ take_foreign fs site
       front_same =
           written_same editor.store editor new made.kept (extends_itself editor.store) new_extends kept_cite stored (length sent) first now is_stored first_is done_is later next site sent_count none
-          ∙ (ap (λ n. with_pending new later n (length site.sent) ks site) (is_next ∙ ap (λ n. seen + n) (sym fs_count))
-          ∙ (ap (λ u. with_pending new u (seen + length fs) (length site.sent) ks site) noted
-          ∙ (ap (λ r. with_pending r (passed (flattened cs) untold) (seen + length fs) (length site.sent) ks site) page
-          ∙ sym (front_is fs site cs ks (subst (λ n. 0 < n) (sym fs_count) some) joined))))
+          ∙ (ap (λ hs. with_pending new later next (length site.sent) hs ks site) same_hints
+          ∙ (ap (λ n. with_pending new later n (length site.sent) (hints (pending site)) ks site) (is_next ∙ ap (λ n. seen + n) (sym fs_count))
+          ∙ (ap (λ u. with_pending new u (seen + length fs) (length site.sent) (hints (pending site)) ks site) noted
+          ∙ (ap (λ r. with_pending r (passed (flattened cs) untold) (seen + length fs) (length site.sent) (hints (pending site)) ks site) page
+          ∙ sym (front_is fs site cs ks (subst (λ n. 0 < n) (sym fs_count) some) joined)))))
 
       pub front_is_site : IsSite new next first now shared flight
       front_is_site =

@@ -23,7 +23,7 @@ use Rattle.ve_site.specs.Ground.{ground_of}
 use Rattle.ve_site.specs.Numbered.{Numbered, with_site}
 use Rattle.model_site.specs.Made.{taking_all, taking_one}
 use Rattle.ve_site.specs.Taking.{steps_of_feed}
-use Rattle.ve_site.specs.Underway.{AreTakenInPlace, IsTakenInPlace, MakesCopy, taking_site}
+use Rattle.ve_site.specs.Underway.{AreTakenInPlace, IsTakenInPlace, MakesCopy, taking_site, with_none_undone}
 use Rattle.ve_site.proofs.DropLemmas.{none_taken_back}
 use Rattle.ve_site.proofs.MakingLemmas.{making_anyway}
 use Rattle.ve_site.proofs.SeveralLemmas.{one_makes_copy}
@@ -81,7 +81,7 @@ module _ (parcels : List Parcel) (one : Parcel) (n : length parcels ≡ 1) (is :
 
 -- ---- on a copy
 
-module _ (entries : List ModelParcel) (s : Site) (copy : Taking) (is : taking_site copy ≡ record s { undone = [] }) where
+module _ (entries : List ModelParcel) (s : Site) (copy : Taking) (is : taking_site copy ≡ with_none_undone s) where
   pub copy_runs : AllRun (flattened entries) (ground_of s) → AllRun (flattened entries) (ground_of (taking_site copy))
   copy_runs run = subst (λ t. AllRun (flattened entries) (ground_of t)) (sym is) run
 

@@ -13,6 +13,7 @@ use Rattle.model_site.specs.Take.{take_entry, take_foreign}
 use Rattle.model_site_law.proofs.ReplayLemmas.{AllRun-parts, flattened-append, replay-append}
 use Rattle.model_site_law.proofs.RevertLemmas.{items_performed, items_put_back}
 use Rattle.model_change.specs.Cost.{cost_of_transactions}
+use Rattle.ve_site.specs.Underway.{with_none_undone}
 use Rattle.ve_site.specs.Ground.{Stands, ground_of}
 use Rattle.model_site.specs.Made.{taking_all, taking_one}
 use Rattle.ve_site.proofs.NotedLemmas.{reversal-append}
@@ -58,7 +59,7 @@ all_replayed (entry ∷ entries) s =
 
 -- ---- some entries, and then others
 
-pub making_anyway : (entries : List Parcel) (s : Site) → taking_all entries s ≡ taking_all entries (record s { undone = [] })
+pub making_anyway : (entries : List Parcel) (s : Site) → taking_all entries s ≡ taking_all entries (with_none_undone s)
 making_anyway [] s = refl
 making_anyway (entry ∷ entries) s = refl
 
@@ -90,7 +91,7 @@ pub record HasTakenAll (entries : List Parcel) (s : Site) : Type 0 where
   pub ground : ground_of (take_foreign entries s) ≡ replay (flattened entries) (ground_of s)
 
 pub has_taken_all : (entries : List Parcel) (s : Site) → Stands s → AllRun (flattened entries) (ground_of s) → HasTakenAll entries s
-has_taken_all [] s stands run = record { stands = restacked_stands s (record s { undone = [] }) stands refl refl refl; ground = refl }
+has_taken_all [] s stands run = record { stands = restacked_stands s (with_none_undone s) stands refl refl refl; ground = refl }
 has_taken_all (entry ∷ entries) s stands run =
     let may = may_take_next entry entries s stands run in
     let first = has_taken entry s stands may.run in

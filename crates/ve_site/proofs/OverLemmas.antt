@@ -74,5 +74,5 @@ entries_extended old new [] grown h = refl
 entries_extended old new (x ∷ es) grown h =
     let one = all_by_value-extended old new grown x.txs (All-head (EntryCites old) x es h) in
     let rest = entries_extended old new es grown (All-tail (EntryCites old) x es h) in
-    ap (λ txs. record { txs = txs; store_before = x.store_before; store_after = x.store_after } ∷ map (entry_by_value new) es) one
+    ap (λ txs. record { txs = txs; store_before = x.store_before; store_after = x.store_after; takes_back = x.takes_back } ∷ map (entry_by_value new) es) one
     ∙ ap (λ more. entry_by_value old x ∷ more) rest

@@ -9,12 +9,13 @@ use Rattle.model_items.specs.Plain.{plain}
 use Rattle.model_change.specs.Replay.{AllRun, flattened}
 use Rattle.model_change.specs.Transaction.{Transaction, edited, new_length, old_length}
 use Rattle.model_change.proofs.Fits.{gives_new_length, parts_of_Applies}
-use Rattle.model_site.specs.Entries.{Parcel as ModelParcel, parcels}
+use Rattle.model_site.specs.Entries.{Hints, Parcel as ModelParcel, hints, parcels}
 use Rattle.model_site.specs.Replica.{Replica}
 use Rattle.model_site.specs.Site.{Site, pending}
 use Rattle.model_site.specs.Take.{parcel_entries}
 use Rattle.model_site.specs.Untold.{Untold}
 use Rattle.ve_tx.specs.declared.entry.Entry.{Entry}
+use Rattle.ve_tx.specs.declared.parcel.Parcel.{Parcel}
 use Rattle.ve_tx.specs.ByValue.{parcel_by_value, ParcelCites}
 use Rattle.ve_tx.specs.Cites.{TxCites}
 use Rattle.ve_tx.specs.Making.{Extends}
@@ -22,12 +23,12 @@ use Rattle.ve_tx.specs.Operation.{Attribute, Operation, Replace, Retain, by_valu
 use Rattle.ve_editor.specs.Edited.{entry_by_value, EntryCites}
 use Rattle.ve_editor.proofs.OtherLemmas.{all_cites-extended}
 use Rattle.ve_history.specs.Stacks.{Stacks}
-use Rattle.ve_rebase.specs.Entries.{parcels_by_value}
+use Rattle.ve_rebase.specs.Entries.{outline, parcels_by_value}
 use Rattle.ve_rebase.specs.Lists.{RunFromOneLength, RunOnLength}
 use Rattle.ve_rebase.specs.Under.{all_over, over_values}
 use Rattle.ve_site.specs.Dropped.{numbered_alike}
 use Rattle.ve_site.specs.Ground.{AreOver, Stands, ground_of}
-use Rattle.ve_site.specs.Numbered.{site_of, IsSite}
+use Rattle.ve_site.specs.Numbered.{hint_of, site_of, IsSite}
 use Rattle.ve_site.proofs.FrontLemmas.{with_pending}
 use Rattle.ve_site.proofs.OverLemmas.{entries_extended}
 use Rattle.ve_site.proofs.StandsLemmas.{untold_stands}
@@ -90,9 +91,29 @@ cites_grown v w (e ∷ es) grown h =
     All-cons (EntryCites w) e es (all_cites-extended v w grown e.txs (All-head (EntryCites v) e es h)) (cites_grown v w es grown (All-tail (EntryCites v) e es h))
 
 -- with one number
-alike_noted : (v : List Value) (n : ℕ) (es : List Entry) → map (entry_by_value v) (map (numbered_alike n) es) ≡ parcel_entries n (parcels (map (entry_by_value v) es))
+alike_noted : (v : List Value) (n : ℕ) (es : List Entry) → map (entry_by_value v) (map (numbered_alike n) es) ≡ parcel_entries n (hints (map (entry_by_value v) es)) (parcels (map (entry_by_value v) es))
 alike_noted v n [] = refl
-alike_noted v n (e ∷ es) = ap (λ l. record { txs = map (by_value v) e.txs; store_before = n; store_after = n } ∷ l) (alike_noted v n es)
+alike_noted v n (e ∷ es) = ap (λ l. record { txs = map (by_value v) e.txs; store_before = n; store_after = n; takes_back = e.takes_back } ∷ l) (alike_noted v n es)
+
+-- what they take back is no matter of their values
+pub hints_over : (v : List Value) (es : List Entry) → map hint_of (all_over v es) ≡ hints (map (entry_by_value v) es)
+hints_over v [] = refl
+hints_over v (e ∷ es) = ap (λ l. e.takes_back ∷ l) (hints_over v es)
+
+hints_in_outlines : (ps : List Parcel) → map (λ (o : ℕ × Parcel). hint_of o.1) (map outline ps) ≡ map hint_of ps
+hints_in_outlines [] = refl
+hints_in_outlines (p ∷ ps) = ap (λ l. hint_of p ∷ l) (hints_in_outlines ps)
+
+-- and what is joined keeps it
+pub outlined_hints : (v : List Value) (es : List Entry) (ps : List Parcel) → map outline (all_over v es) ≡ map outline ps → hints (map (entry_by_value v) es) ≡ map hint_of ps
+outlined_hints v es ps same =
+    sym (hints_over v es) ∙ (sym (hints_in_outlines (all_over v es)) ∙ (ap (map (λ (o : ℕ × Parcel). hint_of o.1)) same ∙ hints_in_outlines ps))
+
+-- only so many count as there are parcels
+pub hints_cut : (n : ℕ) (taken : Hints) (ps : List ModelParcel) → parcel_entries n (take (length ps) taken) ps ≡ parcel_entries n taken ps
+hints_cut n taken [] = refl
+hints_cut n [] (p ∷ ps) = refl
+hints_cut n (t ∷ taken) (p ∷ ps) = ap (λ l. record { txs = p; store_before = n; store_after = n; takes_back = t } ∷ l) (hints_cut n taken ps)
 
 alike_over : (store : List Value) (least : ℕ) (es : List Entry) → least ≤ length store → All (EntryCites store) es → AreOver store least (map (numbered_alike (length store)) es)
 alike_over store least [] le h = le
@@ -149,18 +170,21 @@ module _ (base : List Value) (editor new : Replica) (kept : List Entry) (old_ext
   abbrev by_value_kept : List ModelParcel
   by_value_kept = parcels (map (entry_by_value editor.store) kept)
 
+  abbrev kept_hints : Hints
+  kept_hints = hints (map (entry_by_value editor.store) kept)
+
   by_new : map (entry_by_value new.store) kept ≡ map (entry_by_value editor.store) kept
   by_new = entries_extended base new.store kept new_extends cite ∙ sym (entries_extended base editor.store kept old_extends cite)
 
-  kept_noted : map (entry_by_value new.store) (map (numbered_alike stored) kept) ≡ parcel_entries (length new.store) by_value_kept
-  kept_noted = alike_noted new.store stored kept ∙ (ap (λ es. parcel_entries stored (parcels es)) by_new ∙ ap (λ n. parcel_entries n by_value_kept) is_stored)
+  kept_noted : map (entry_by_value new.store) (map (numbered_alike stored) kept) ≡ parcel_entries (length new.store) kept_hints by_value_kept
+  kept_noted = alike_noted new.store stored kept ∙ (ap (λ es. parcel_entries stored (hints es) (parcels es)) by_new ∙ ap (λ n. parcel_entries n kept_hints by_value_kept) is_stored)
 
-  first_same : map (entry_by_value new.store) first ≡ take count (parcel_entries (length new.store) by_value_kept)
+  first_same : map (entry_by_value new.store) first ≡ take count (parcel_entries (length new.store) kept_hints by_value_kept)
   first_same =
       ap (map (entry_by_value new.store)) (first_is ∙ sym (take-map (numbered_alike stored) count kept))
       ∙ (sym (take-map (entry_by_value new.store) count (map (numbered_alike stored) kept)) ∙ ap (take count) kept_noted)
 
-  done_same : map (entry_by_value new.store) now.done ≡ drop count (parcel_entries (length new.store) by_value_kept)
+  done_same : map (entry_by_value new.store) now.done ≡ drop count (parcel_entries (length new.store) kept_hints by_value_kept)
   done_same =
       ap (map (entry_by_value new.store)) (done_is ∙ sym (drop-map (numbered_alike stored) count kept))
       ∙ (sym (drop-map (entry_by_value new.store) count (map (numbered_alike stored) kept)) ∙ ap (drop count) kept_noted)
@@ -184,14 +208,14 @@ module _ (base : List Value) (editor new : Replica) (kept : List Entry) (old_ext
 
   -- a site which has them is the model's
   module _ (later : Untold) (next : ℕ) (s : Site) (count_is : count ≡ length s.sent) (none : now.undone ≡ []) where
-    pub written_same : site_of new later next first now s.shared s.in_flight ≡ with_pending new later next (length s.sent) by_value_kept s
+    pub written_same : site_of new later next first now s.shared s.in_flight ≡ with_pending new later next (length s.sent) kept_hints by_value_kept s
     written_same =
         let left = site_of new later next first now s.shared s.in_flight in
-        let noted = parcel_entries (length new.store) by_value_kept in
+        let noted = parcel_entries (length new.store) kept_hints by_value_kept in
         ap (λ es. record left { sent = es }) first_same
         ∙ (ap (λ es. record left { sent = take count noted; unsent = es }) done_same
-        ∙ (ap (λ ps. record left { sent = take count noted; unsent = drop count noted; undone = map parcel_by_value ps }) none
-        ∙ ap (λ n. with_pending new later next n by_value_kept s) count_is))
+        ∙ (ap (λ ps. record left { sent = take count noted; unsent = drop count noted; undone = map parcel_by_value ps; undone_hints = map hint_of ps }) none
+        ∙ ap (λ n. with_pending new later next n kept_hints by_value_kept s) count_is))
 
     pub written_is : Stands (site_of new later next first now s.shared s.in_flight) → IsSite new next first now s.shared s.in_flight
     written_is stands = record {

@@ -3,7 +3,7 @@ use Rattle.std.proofs.Common.{◌≡◌, ◌≤◌, ◌+◌, ℕ, List, [], ◌�
 use Rattle.std.proofs.lemmas.List.Elements.{All-head, All-tail}
 use Rattle.model_change.specs.Replay.{AllRun, flattened}
 use Rattle.model_site.specs.Causes.{NothingToRedo}
-use Rattle.model_site.specs.Entries.{entry_of}
+use Rattle.model_site.specs.Entries.{entry_against}
 use Rattle.model_site.specs.Replica.{Replica, all_performed}
 use Rattle.model_site.specs.Site.{Site, redo, redo_first}
 use Rattle.model_site.specs.Untold.{Untold, passed}
@@ -16,7 +16,7 @@ use Rattle.ve_editor.specs.Edited.{AllStand, entry_by_value, EntryCites}
 use Rattle.ve_editor.specs.Counted.{steps_over}
 use Rattle.ve_history.specs.Stacks.{Stacks}
 use Rattle.model_site.specs.Made.{redoing}
-use Rattle.ve_site.specs.Numbered.{site_of, IsSite}
+use Rattle.ve_site.specs.Numbered.{hint_of, site_of, IsSite}
 use Rattle.ve_site.proofs.StandsLemmas.{all_stand, redone_stands}
 use Rattle.ve_site.proofs.StepLemmas.{pushed_same, pushed_is}
 
@@ -50,16 +50,16 @@ module _ (editor : Replica) (untold : Untold) (seen : ℕ) (sent : List Entry) (
   redo_counts now after h = subst (λ ps. after ≤ now + steps_over (redoing (map parcel_by_value ps)) editor.items) (sym split) h
 
   module _ (new : Replica) (e : Entry) (now : Stacks) (later : Untold) (page : new ≡ all_performed (parcel_by_value first) editor)
-      (entry : entry_by_value new.store e ≡ entry_of (parcel_by_value first) editor) (cites : EntryCites new.store e) (done : now.done ≡ old.done ++ e ∷ [])
+      (entry : entry_by_value new.store e ≡ entry_against (hint_of first) (parcel_by_value first) editor) (cites : EntryCites new.store e) (done : now.done ≡ old.done ++ e ∷ [])
       (noted : later ≡ passed (map (by_value new.store) e.txs) untold) (undone : now.undone ≡ rest) where
     pub redo_is : redo site ≡ Ok (site_of new later seen sent now shared flight)
     redo_is =
-        ap (λ ps. redo_first (map parcel_by_value ps) site) split
-        ∙ ap (λ s. Ok s) (sym (pushed_same editor untold seen sent old shared flight is (parcel_by_value first) new e now later page entry cites done noted rest undone))
+        ap (λ ps. redo_first (map parcel_by_value ps) (record site { undone_hints = map hint_of ps })) split
+        ∙ ap (λ s. Ok s) (sym (pushed_same editor untold seen sent old shared flight is (hint_of first) (parcel_by_value first) new e now later page entry cites done noted rest undone))
 
     pub redone_is : IsSite new seen sent now shared flight
     redone_is =
-        pushed_is editor untold seen sent old shared flight is (parcel_by_value first) new e now later page entry cites done noted
+        pushed_is editor untold seen sent old shared flight is (hint_of first) (parcel_by_value first) new e now later page entry cites done noted
         (redone_stands site (site_of new later seen sent now shared flight) (is.stands untold) redo_is)
         (subst (All ParcelCites) (sym undone) (All-tail ParcelCites first rest cited))
 

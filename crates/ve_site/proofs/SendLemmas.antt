@@ -4,7 +4,7 @@ use Rattle.std.proofs.lemmas.Bool.{eqb-true, eqb-false}
 use Rattle.std.proofs.lemmas.List.{map-append, append-nil, length-map}
 use Rattle.model_site.specs.Causes.{SendCause}
 use Rattle.model_site.specs.declared.site_fault.SendFault.TheVariants as fault
-use Rattle.model_site.specs.Entries.{parcels}
+use Rattle.model_site.specs.Entries.{Hints, hints, parcels}
 use Rattle.model_site.specs.Entries.{Entry as ModelEntry, Parcel as ModelParcel}
 use Rattle.model_site.specs.Replica.{Replica}
 use Rattle.model_site.specs.Site.{Site, Submission, pending, send, send_unless}
@@ -15,13 +15,13 @@ use Rattle.ve_tx.specs.ByValue.{parcel_by_value, ParcelCites}
 use Rattle.ve_editor.specs.Edited.{entry_by_value, EntryCites}
 use Rattle.ve_history.specs.Stacks.{Stacks}
 use Rattle.ve_site.specs.Ground.{AreOver, Stands}
-use Rattle.ve_site.specs.Numbered.{site_of, IsSite}
+use Rattle.ve_site.specs.Numbered.{hint_of, site_of, IsSite}
 use Rattle.ve_site.specs.Refusal.{send_refusal}
 use Rattle.ve_site.proofs.OverLemmas.{over_cites, cite_parts}
 use Rattle.ve_site.proofs.StandsLemmas.{sent_stands, untold_stands}
 
 sent_of : (s : Site) (es : List ModelEntry) → 0 < length es →
-    send_unless None es s ≡ Ok (record s { sent = s.sent ++ es; unsent = []; shared = s.shared + length es; in_flight = Some (length es) }, record { base = s.seen; entries = parcels es })
+    send_unless None es s ≡ Ok (record s { sent = s.sent ++ es; unsent = []; shared = s.shared + length es; in_flight = Some (length es) }, record { base = s.seen; entries = parcels es; hints = hints es })
 sent_of s [] some = absurd (omega arith)
 sent_of s (e ∷ es) some = refl
 
@@ -69,6 +69,13 @@ module _ (editor : Replica) (untold : Untold) (seen : ℕ) (sent : List Entry) (
       ap (λ ps. ps ++ second) f ∙ ap (λ ps. parcels (map (entry_by_value editor.store) sent) ++ ps) g
       ∙ sym (parcels-append (map (entry_by_value editor.store) sent) (map (entry_by_value editor.store) old.done))
 
+  -- and what they take back
+  pub pending_hints : (first second : Hints) → first ≡ hints (map (entry_by_value editor.store) sent) → second ≡ hints (map (entry_by_value editor.store) old.done) →
+      first ++ second ≡ hints (pending site)
+  pending_hints first second f g =
+      ap (λ hs. hs ++ second) f ∙ ap (λ hs. hints (map (entry_by_value editor.store) sent) ++ hs) g
+      ∙ sym (map-append (λ (e : ModelEntry). e.takes_back) (map (entry_by_value editor.store) sent) (map (entry_by_value editor.store) old.done))
+
   module _ (now : Stacks) (all : List Entry) (count total : ℕ) (sent_all : all ≡ sent ++ old.done) (done : now.done ≡ []) (undone : now.undone ≡ old.undone)
       (counted : count ≡ length old.done) (added : total ≡ shared + count) where
     abbrev next : Site
@@ -76,16 +83,16 @@ module _ (editor : Replica) (untold : Untold) (seen : ℕ) (sent : List Entry) (
 
     sent_same : site_of editor untold seen all now total (Some count) ≡ next
     sent_same =
-        ap (λ es. record next { sent = map (entry_by_value editor.store) all; unsent = map (entry_by_value editor.store) es; undone = map parcel_by_value now.undone }) done
-        ∙ (ap (λ ps. record next { sent = map (entry_by_value editor.store) all; undone = map parcel_by_value ps }) undone
+        ap (λ es. record next { sent = map (entry_by_value editor.store) all; unsent = map (entry_by_value editor.store) es; undone = map parcel_by_value now.undone; undone_hints = map hint_of now.undone }) done
+        ∙ (ap (λ ps. record next { sent = map (entry_by_value editor.store) all; undone = map parcel_by_value ps; undone_hints = map hint_of ps }) undone
         ∙ ap (λ es. record next { sent = es }) (ap (map (entry_by_value editor.store)) sent_all ∙ map-append (entry_by_value editor.store) sent old.done))
 
     pub send_is : IsOk (send site) →
-        send site ≡ Ok (site_of editor untold seen all now total (Some count), record { base = seen; entries = parcels (map (entry_by_value editor.store) old.done) })
+        send site ≡ Ok (site_of editor untold seen all now total (Some count), record { base = seen; entries = parcels (map (entry_by_value editor.store) old.done); hints = hints (map (entry_by_value editor.store) old.done) })
     send_is ok =
         let may = sendable flight site.unsent site ok in
         let many : count ≡ length site.unsent = counted ∙ sym (length-map old.done (entry_by_value editor.store)) in
-        let finish : Site → Result (Site × Submission) SendCause = λ s. Ok (s, record { base = seen; entries = parcels site.unsent }) in
+        let finish : Site → Result (Site × Submission) SendCause = λ s. Ok (s, record { base = seen; entries = parcels site.unsent; hints = hints site.unsent }) in
         ap (λ f. send_unless f site.unsent site) may.0
         ∙ (sent_of site site.unsent may.1
         ∙ (ap (λ n. finish (record site { sent = site.sent ++ site.unsent; unsent = []; shared = shared + n; in_flight = Some n })) (sym many)

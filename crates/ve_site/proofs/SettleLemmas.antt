@@ -10,7 +10,7 @@ use Rattle.ve_site.proofs.PatchLemmas.{passed_filled}
 
 pub settled_is : (new : Replica) (e : Entry) (site : Site) (by : Settles site.replica new e) → with_new_entry new e site ≡ with_entry by.ts site
 settled_is new e site by =
-    ap (λ (x : ModelEntry). record site { replica = new; untold = passed x.txs site.untold; unsent = site.unsent ++ x ∷ []; undone = [] }) by.entry
+    ap (λ (x : ModelEntry). record site { replica = new; untold = passed x.txs site.untold; unsent = site.unsent ++ x ∷ []; undone = []; undone_hints = [] }) by.entry
     ∙ (ap (λ (n : Untold). record (with_entry by.ts site) { replica = new; untold = n }) (passed_filled by.ts site.replica.items site.untold)
     ∙ ap (λ (r : Replica). record (with_entry by.ts site) { replica = r }) by.page)
 

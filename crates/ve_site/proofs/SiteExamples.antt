@@ -15,6 +15,7 @@ use Rattle.model_site.specs.declared.site_fault.UndoFault.TheVariants as undo_wh
 use Rattle.model_site.specs.declared.site_fault.RedoFault.TheVariants as redo_why
 use Rattle.model_site.specs.declared.site_fault.SendFault.TheVariants as send_why
 use Rattle.ve_tx.specs.declared.entry.Entry.{Entry}
+use Rattle.ve_tx.specs.declared.parcel.Parcel.{Parcel}
 use Rattle.model_items.specs.Cost.{cost_of_tree}
 use Rattle.model_site.specs.Made.{undoing, redoing}
 use Rattle.ve_site.specs.Dropped.{numbered_alike}
@@ -39,9 +40,10 @@ in_flight = record {
   replica = page (codes "abcd");
   untold = none_untold 4;
   seen = 2;
-  sent = record { txs = puts 1 98 1 ∷ []; store_before = 0; store_after = 0 } ∷ [];
-  unsent = record { txs = puts 2 99 1 ∷ []; store_before = 0; store_after = 0 } ∷ [];
+  sent = record { txs = puts 1 98 1 ∷ []; store_before = 0; store_after = 0; takes_back = None } ∷ [];
+  unsent = record { txs = puts 2 99 1 ∷ []; store_before = 0; store_after = 0; takes_back = None } ∷ [];
   undone = [];
+  undone_hints = [];
   shared = 1;
   in_flight = Some 1;
 }
@@ -72,7 +74,7 @@ abbrev white : List ℕ → Value
 white = White
 
 abbrev numbered : (before after : ℕ) → Entry
-numbered before after = record { txs = []; store_before = before; store_after = after }
+numbered before after = record { txs = []; store_before = before; store_after = after; takes_back = None }
 
 numbers_rise : AreOver (white (codes " ") ∷ white (codes "  ") ∷ []) 0 (numbered 0 1 ∷ numbered 1 1 ∷ numbered 1 2 ∷ [])
 numbers_rise = (omega arith, omega arith, All-nil _, (omega arith, omega arith, All-nil _, (omega arith, omega arith, All-nil _, omega arith)))
@@ -83,14 +85,22 @@ no_number_falls h = let low = h.3.0 in absurd (omega arith)
 none_is_past_the_store : AreOver (white (codes " ") ∷ []) 0 (numbered 0 2 ∷ []) → ⊥
 none_is_past_the_store h = let low = h.3 in absurd (omega arith)
 
+-- two that take other entries back
+abbrev takes_one_back : Entry
+takes_one_back = record (numbered 0 1) { takes_back = Some 3 }
+
+abbrev takes_another_back : Parcel
+takes_another_back = record { entry = record (numbered 0 0) { takes_back = Some 5 }; values = [] }
+
 -- the history's entries are the unsent ones
-by_fields : site_of (page []) (none_untold 2) 4 (numbered 0 0 ∷ []) (record { done = numbered 0 1 ∷ []; undone = []; spare = 9 }) 7 None ≡ record {
+by_fields : site_of (page []) (none_untold 2) 4 (numbered 0 0 ∷ []) (record { done = takes_one_back ∷ []; undone = takes_another_back ∷ []; spare = 9 }) 7 None ≡ record {
   replica = page [];
   untold = record { was = 2; patches = [] };
   seen = 4;
-  sent = record { txs = []; store_before = 0; store_after = 0 } ∷ [];
-  unsent = record { txs = []; store_before = 0; store_after = 1 } ∷ [];
-  undone = [];
+  sent = record { txs = []; store_before = 0; store_after = 0; takes_back = None } ∷ [];
+  unsent = record { txs = []; store_before = 0; store_after = 1; takes_back = Some 3 } ∷ [];
+  undone = [] ∷ [];
+  undone_hints = Some 5 ∷ [];
   shared = 7;
   in_flight = None;
 }
@@ -99,7 +109,7 @@ by_fields = refl
 -- ---- what a call performs
 
 abbrev one_more_unsent : Site
-one_more_unsent = record in_flight { unsent = record { txs = []; store_before = 0; store_after = 0 } ∷ in_flight.unsent }
+one_more_unsent = record in_flight { unsent = record { txs = []; store_before = 0; store_after = 0; takes_back = None } ∷ in_flight.unsent }
 
 the_last_is_taken_back : undoing one_more_unsent.unsent ≡ (Retain 2 ∷ Replace (letters (codes "c")) [] ∷ Retain 1 ∷ []) ∷ []
 the_last_is_taken_back = refl

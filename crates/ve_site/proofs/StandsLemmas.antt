@@ -8,7 +8,7 @@ use Rattle.model_change.proofs.ReversalLaw.{reversal_undoes}
 use Rattle.model_edit.specs.declared.selection.Selection.{Selection}
 use Rattle.model_site.specs.Entries.{Entry, Parcel, parcels}
 use Rattle.model_site.specs.Replica.{Replica}
-use Rattle.model_site.specs.Site.{Site, init_and_last, pending, redo, redo_first, starting, undo, undo_last, with_entry, with_selection, with_undone}
+use Rattle.model_site.specs.Site.{Site, init_and_last, pending, redo, redo_first, starting, undo, undo_last, with_entry_against, with_selection, with_undone}
 use Rattle.model_site.specs.Untold.{Untold}
 use Rattle.model_site_law.specs.Chain.{Chain}
 use Rattle.model_site_law.specs.Holds.{Holds}
@@ -16,7 +16,7 @@ use Rattle.model_site_law.specs.SelectionLaws.{StandsIn}
 use Rattle.model_site_law.specs.Sound.{AllMayRun, Opens, Sound}
 use Rattle.model_site_law.proofs.ReplicaLemmas.{IsKept, performed_keep, undo_keep, redo_keep}
 use Rattle.model_site_law.proofs.SelectionLemmas.{moved_stands}
-use Rattle.model_site_law.proofs.SiteLemmas.{edit_holds, undo_holds, redo_holds}
+use Rattle.model_site_law.proofs.SiteLemmas.{edit_holds, undo_holds, redo_holds, with_redone}
 use Rattle.ve_editor.specs.Edited.{AllStand}
 use Rattle.ve_site.specs.Ground.{ground_of, as_opened, Stands}
 
@@ -42,9 +42,9 @@ stands_on floor s sound h p =
 pub starts : (r : Replica) → Opens r → Selects r → Stands (starting r)
 starts r opens p = stands_on r.items (starting r) opens.sound (record { seen = refl; list = refl; runs = tt; undone = tt; chain = omega arith; held = opens.stored }) p
 
-pub edited_stands : (ts : List Transaction) (s : Site) → Stands s → AllMayRun ts s.replica.items → Stands (with_entry ts s)
-edited_stands ts s h may =
-    stands_on (ground_of s) (with_entry ts s) h.sound (edit_holds (ground_of s) [] ts (as_opened s) h.holds may) (performed_keep Selects selects_kept ts s.replica may h.selection)
+pub edited_stands : (taken : Option ℕ) (ts : List Transaction) (s : Site) → Stands s → AllMayRun ts s.replica.items → Stands (with_entry_against taken ts s)
+edited_stands taken ts s h may =
+    stands_on (ground_of s) (with_entry_against taken ts s) h.sound (edit_holds (ground_of s) [] taken ts (as_opened s) h.holds may) (performed_keep Selects selects_kept ts s.replica may h.selection)
 
 -- what is undone and redone names no committed entries
 undone_opened : (s next : Site) (es : List Entry) → undo_last es s ≡ Ok next → undo_last es (as_opened s) ≡ Ok (as_opened next)
@@ -63,8 +63,7 @@ undone_stands s next h done =
 redone_opened : (s next : Site) (ps : List Parcel) → redo_first ps s ≡ Ok next → redo_first ps (as_opened s) ≡ Ok (as_opened next)
 redone_opened s next [] e = cc
 redone_opened s next (ts ∷ ps) e =
-    let new : Site = record (with_entry ts s) { undone = ps } in
-    let same : new ≡ next = cc in
+    let same : with_redone ts ps s ≡ next = cc in
     ap (λ n. Ok (as_opened n)) same
 
 pub redone_stands : (s next : Site) → Stands s → redo s ≡ Ok next → Stands next

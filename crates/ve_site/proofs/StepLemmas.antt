@@ -8,11 +8,11 @@ use Rattle.model_items.specs.declared.plain_item.PlainItem.{PlainItem}
 use Rattle.model_items.specs.Plain.{plain, plain_list}
 use Rattle.model_change.specs.Transaction.{Transaction, InsertedApart, is_reduced}
 use Rattle.model_edit.specs.declared.selection.Selection.{Selection}
-use Rattle.model_site.specs.Entries.{entry_of}
+use Rattle.model_site.specs.Entries.{entry_against, entry_of}
 use Rattle.model_site.specs.Entries.{Entry as ModelEntry}
 use Rattle.model_site.specs.Refused.{edit_cause}
 use Rattle.model_site.specs.Replica.{Replica, all_performed}
-use Rattle.model_site.specs.Site.{Site, edit, edit_unless, starting, with_entry}
+use Rattle.model_site.specs.Site.{Site, edit, edit_unless, starting, with_entry_against}
 use Rattle.model_site.specs.Untold.{Untold, all_untold, passed}
 use Rattle.model_site_law.specs.Sound.{AllMayRun, Opens}
 use Rattle.model_site_law.specs.SelectionLaws.{StandsIn}
@@ -26,7 +26,7 @@ use Rattle.ve_tx.specs.Operation.{by_value}
 use Rattle.ve_editor.specs.Edited.{entry_by_value, EntryCites}
 use Rattle.ve_history.specs.Stacks.{Stacks}
 use Rattle.ve_site.specs.Ground.{AreOver, Stands}
-use Rattle.ve_site.specs.Numbered.{site_of, IsSite}
+use Rattle.ve_site.specs.Numbered.{hint_of, site_of, IsSite}
 use Rattle.ve_site.proofs.OverLemmas.{over_pushed, over_cites, cite_parts, entries_extended}
 use Rattle.ve_site.proofs.PatchLemmas.{passed_filled}
 use Rattle.ve_site.proofs.StandsLemmas.{edited_stands, selected_stands, starts, untold_stands}
@@ -38,7 +38,8 @@ module _ (editor : Replica) (untold : Untold) (seen : ℕ) (sent : List Entry) (
   -- the history may take room
   pub roomy_same : (now : Stacks) → now.done ≡ old.done → now.undone ≡ old.undone → site_of editor untold seen sent now shared flight ≡ site
   roomy_same now d u =
-      ap (λ es. record site { unsent = map (entry_by_value editor.store) es; undone = map parcel_by_value now.undone }) d ∙ ap (λ ps. record site { undone = map parcel_by_value ps }) u
+      ap (λ es. record site { unsent = map (entry_by_value editor.store) es; undone = map parcel_by_value now.undone; undone_hints = map hint_of now.undone }) d
+      ∙ ap (λ ps. record site { undone = map parcel_by_value ps; undone_hints = map hint_of ps }) u
 
   pub roomy_is : (now : Stacks) → now.done ≡ old.done → now.undone ≡ old.undone → IsSite editor seen sent now shared flight
   roomy_is now d u = record {
@@ -52,8 +53,8 @@ module _ (editor : Replica) (untold : Untold) (seen : ℕ) (sent : List Entry) (
 
   -- ---- an entry more
 
-  module _ (ts : List Transaction) (new : Replica) (e : Entry) (now : Stacks) (later : Untold) (page : new ≡ all_performed ts editor)
-      (entry : entry_by_value new.store e ≡ entry_of ts editor) (cites : EntryCites new.store e) (done : now.done ≡ old.done ++ e ∷ [])
+  module _ (taken : Option ℕ) (ts : List Transaction) (new : Replica) (e : Entry) (now : Stacks) (later : Untold) (page : new ≡ all_performed ts editor)
+      (entry : entry_by_value new.store e ≡ entry_against taken ts editor) (cites : EntryCites new.store e) (done : now.done ≡ old.done ++ e ∷ [])
       (noted : later ≡ passed (map (by_value new.store) e.txs) untold) where
     grown : Extends editor.store new.store
     grown = let g = all_performed_grows ts editor in (g.more, ap (λ (r : Replica). r.store) page ∙ g.same)
@@ -61,11 +62,11 @@ module _ (editor : Replica) (untold : Untold) (seen : ℕ) (sent : List Entry) (
     noted_same : later ≡ passed ts untold
     noted_same = noted ∙ (ap (λ (x : ModelEntry). passed x.txs untold) entry ∙ passed_filled ts editor.items untold)
 
-    pub pushed_same : (undone : List Parcel) → now.undone ≡ undone → site_of new later seen sent now shared flight ≡ record (with_entry ts site) { undone = map parcel_by_value undone }
+    pub pushed_same : (undone : List Parcel) → now.undone ≡ undone → site_of new later seen sent now shared flight ≡ record (with_entry_against taken ts site) { undone = map parcel_by_value undone; undone_hints = map hint_of undone }
     pushed_same undone u =
         let parts = cite_parts editor.store sent old.done all_cite in
         let sent_same = entries_extended editor.store new.store sent grown parts.0 in
-        let done_same : map (entry_by_value new.store) now.done ≡ site.unsent ++ entry_of ts editor ∷ [] =
+        let done_same : map (entry_by_value new.store) now.done ≡ site.unsent ++ entry_against taken ts editor ∷ [] =
         ap (map (entry_by_value new.store)) done
         ∙ (map-append (entry_by_value new.store) old.done (e ∷ [])
         ∙ (ap (λ es. es ++ entry_by_value new.store e ∷ []) (entries_extended editor.store new.store old.done grown parts.1) ∙ ap (λ x. site.unsent ++ x ∷ []) entry)) in
@@ -74,7 +75,7 @@ module _ (editor : Replica) (untold : Untold) (seen : ℕ) (sent : List Entry) (
         ∙ (ap (λ r. record left { replica = r }) page
         ∙ (ap (λ es. record left { replica = all_performed ts editor; sent = es }) sent_same
         ∙ (ap (λ es. record left { replica = all_performed ts editor; sent = site.sent; unsent = es }) done_same
-        ∙ ap (λ ps. record (with_entry ts site) { undone = map parcel_by_value ps }) u)))
+        ∙ ap (λ ps. record (with_entry_against taken ts site) { undone = map parcel_by_value ps; undone_hints = map hint_of ps }) u)))
 
     pub pushed_is : Stands (site_of new later seen sent now shared flight) → All ParcelCites now.undone → IsSite new seen sent now shared flight
     pushed_is stands undone_cite =
@@ -89,11 +90,11 @@ module _ (editor : Replica) (untold : Untold) (seen : ℕ) (sent : List Entry) (
 
     -- changes that may be made
 
-    pub with_entry_same : now.undone ≡ [] → site_of new later seen sent now shared flight ≡ with_entry ts site
+    pub with_entry_same : now.undone ≡ [] → site_of new later seen sent now shared flight ≡ with_entry_against taken ts site
     with_entry_same u = pushed_same [] u
 
     pub with_entry_is : now.undone ≡ [] → AllMayRun ts editor.items → IsSite new seen sent now shared flight
-    with_entry_is u may = pushed_is (subst Stands (sym (with_entry_same u)) (edited_stands ts site (is.stands untold) may)) (subst (All ParcelCites) (sym u) (All-nil ParcelCites))
+    with_entry_is u may = pushed_is (subst Stands (sym (with_entry_same u)) (edited_stands taken ts site (is.stands untold) may)) (subst (All ParcelCites) (sym u) (All-nil ParcelCites))
 
   -- ---- an edit
 
@@ -101,10 +102,10 @@ module _ (editor : Replica) (untold : Untold) (seen : ℕ) (sent : List Entry) (
       (entry : entry_by_value new.store e ≡ entry_of (t ∷ []) editor) (cites : EntryCites new.store e) (done : now.done ≡ old.done ++ e ∷ [])
       (noted : later ≡ passed (map (by_value new.store) e.txs) untold) (undone : now.undone ≡ []) where
     pub edit_is : edit t site ≡ Ok (site_of new later seen sent now shared flight)
-    edit_is = ap (λ c. edit_unless c t site) allowed ∙ ap (λ s. Ok s) (sym (with_entry_same (t ∷ []) new e now later page entry cites done noted undone))
+    edit_is = ap (λ c. edit_unless c t site) allowed ∙ ap (λ s. Ok s) (sym (with_entry_same None (t ∷ []) new e now later page entry cites done noted undone))
 
     pub edited_is : is_reduced t ≡ true → InsertedApart t → IsSite new seen sent now shared flight
-    edited_is reduced apart = with_entry_is (t ∷ []) new e now later page entry cites done noted undone (edit_may_run t editor reduced apart allowed, tt)
+    edited_is reduced apart = with_entry_is None (t ∷ []) new e now later page entry cites done noted undone (edit_may_run t editor reduced apart allowed, tt)
 
 -- ---- a site as it begins, and another selection
 
@@ -119,7 +120,7 @@ begun_same editor untold sent h n e d u =
     ap (λ x. site_of editor x 0 sent h 0 None) n
     ∙ (ap (λ es. record begun { sent = map (entry_by_value editor.store) es }) e
     ∙ (ap (λ es. record begun { sent = []; unsent = map (entry_by_value editor.store) es }) d
-    ∙ ap (λ ps. record (starting editor) { undone = map parcel_by_value ps }) u))
+    ∙ ap (λ ps. record (starting editor) { undone = map parcel_by_value ps; undone_hints = map hint_of ps }) u))
 
 pub begun_is : (editor : Replica) (sent : List Entry) (h : Stacks) → sent ≡ [] → h.done ≡ [] → h.undone ≡ [] → Opens editor → StandsIn editor.items editor.selection →
     IsSite editor 0 sent h 0 None

@@ -1,17 +1,17 @@
 -- The meaning of a site's fields once it took an entry of another site, and that they are a site's
 -- again.
 use Rattle.std.proofs.Common.{◌≡◌, ◌≤◌, ◌<◌, ◌+◌, ℕ, suc, List, [], ◌++◌, length, map, take, drop, All, Option, None, refl, sym, ap, ◌∙◌, subst, arith}
-use Rattle.std.proofs.lemmas.List.{length-append, length-map, length-take, drop-map}
+use Rattle.std.proofs.lemmas.List.{length-append, length-map, length-take, drop-map, take-map}
 use Rattle.std.proofs.lemmas.List.Elements.{All-nil}
 use Rattle.ve_base.specs.declared.value.Value.{Value}
 use Rattle.model_change.specs.Replay.{AllRun, flattened, reversal}
 use Rattle.model_change.specs.Transaction.{Transaction}
-use Rattle.model_site.specs.Entries.{Parcel as ModelParcel, all_reverted, parcels}
+use Rattle.model_site.specs.Entries.{Hints, Parcel as ModelParcel, all_reverted, hints, parcels}
 use Rattle.model_site.specs.Entries.{Entry as ModelEntry}
 use Rattle.model_site.specs.Joined.{Joined, join_entries}
 use Rattle.model_site.specs.Replica.{Replica, all_performed}
 use Rattle.model_site.specs.Site.{Site, pending}
-use Rattle.model_site.specs.Take.{take_ack, take_entry}
+use Rattle.model_site.specs.Take.{parcel_entries, take_ack, take_entry}
 use Rattle.model_site.specs.Untold.{Untold, passed}
 use Rattle.model_site_law.proofs.PerformLemmas.{all_performed_grows}
 use Rattle.ve_tx.specs.declared.entry.Entry.{Entry}
@@ -28,13 +28,14 @@ use Rattle.ve_rebase.specs.Entries.{outline}
 use Rattle.ve_rebase.specs.Under.{AreUnder, all_over, joined_under, over_values}
 use Rattle.ve_site.specs.Dropped.{IsAdmitted, IsStack, back_over, numbered_alike}
 use Rattle.ve_site.specs.Ground.{AreOver, Stands, ground_of}
-use Rattle.ve_site.specs.Numbered.{site_of, IsSite}
+use Rattle.ve_site.specs.Numbered.{hint_of, site_of, IsSite}
+use Rattle.ve_site.specs.Underway.{with_none_undone}
 use Rattle.model_site.specs.Made.{taking_one}
 use Rattle.ve_site.proofs.DropLemmas.{stack_is}
 use Rattle.ve_site.proofs.FrontLemmas.{with_pending}
 use Rattle.ve_site.proofs.OverLemmas.{over_cites}
 use Rattle.ve_site.proofs.PatchLemmas.{passed_both}
-use Rattle.ve_site.proofs.PendingLemmas.{cites_from, cites_to, over_rest, over_same, pending_are, pending_count, written_count, written_is, written_same}
+use Rattle.ve_site.proofs.PendingLemmas.{cites_from, cites_to, hints_cut, hints_over, outlined_hints, over_rest, over_same, pending_are, pending_count, written_count, written_is, written_same}
 use Rattle.ve_site.proofs.SeveralLemmas.{two_where_dropped}
 use Rattle.ve_site.proofs.StandsLemmas.{all_stand, untold_stands}
 use Rattle.ve_site.proofs.TakenLemmas.{acked_stands, committed_runs, has_taken, restacked_stands}
@@ -71,6 +72,20 @@ module _ (editor : Replica) (untold : Untold) (seen : ℕ) (sent : List Entry) (
   pub as_many : length made.kept ≡ length j.kept
   as_many =
       sym (length-map made.kept (entry_by_value editor.store)) ∙ (sym (length-map (map (entry_by_value editor.store) made.kept) (λ (e : ModelEntry). e.txs)) ∙ ap length kept)
+
+  abbrev kept_hints : Hints
+  kept_hints = hints (map (entry_by_value editor.store) made.kept)
+
+  -- they take back what they took back
+  first_hints : kept_hints ≡ take (length j.kept) (hints (pending site))
+  first_hints =
+      outlined_hints editor.store made.kept (take (length made.kept) (all_over editor.store all)) (under.outlines editor.store)
+      ∙ (sym (take-map hint_of (length made.kept) (all_over editor.store all))
+      ∙ (ap (take (length made.kept)) (hints_over editor.store all ∙ ap hints together) ∙ ap (λ n. take n (hints (pending site))) as_many))
+
+  kept_are : (n : ℕ) → parcel_entries n kept_hints ks ≡ parcel_entries n (hints (pending site)) j.kept
+  kept_are n =
+      ap (λ ps. parcel_entries n kept_hints ps) kept ∙ (ap (λ hs. parcel_entries n hs j.kept) first_hints ∙ hints_cut n (hints (pending site)) j.kept)
 
   gone : map (entry_by_value editor.store) (drop (length made.kept) all) ≡ drop (length j.kept) (pending site)
   gone = sym (drop-map (entry_by_value editor.store) (length made.kept) all) ∙ (ap (drop (length made.kept)) together ∙ ap (λ n. drop n (pending site)) as_many)
@@ -132,10 +147,10 @@ module _ (editor : Replica) (untold : Untold) (seen : ℕ) (sent : List Entry) (
       pub taken_same : site_of new later next first now shared flight ≡ take_entry ts site
       taken_same =
           written_same base editor new made.kept admitted.dropped.old_extends new_extends kept_cite stored (length sent) first now is_stored first_is done_is later next site sent_count none
-          ∙ (ap (λ n. with_pending new later n (length site.sent) ks site) (let e : next ≡ suc seen = omega (arith, is_next) in e)
-          ∙ (ap (λ u. with_pending new u (suc seen) (length site.sent) ks site) (noted ∙ ap (λ us. passed us untold) makes_one)
-          ∙ (ap (λ r. with_pending r (passed (taking_one ts site) untold) (suc seen) (length site.sent) ks site) page
-          ∙ ap (λ ps. with_pending after (passed (taking_one ts site) untold) (suc seen) (length site.sent) ps site) kept)))
+          ∙ (ap (λ n. with_pending new later n (length site.sent) kept_hints ks site) (let e : next ≡ suc seen = omega (arith, is_next) in e)
+          ∙ (ap (λ u. with_pending new u (suc seen) (length site.sent) kept_hints ks site) (noted ∙ ap (λ us. passed us untold) makes_one)
+          ∙ (ap (λ r. with_pending r (passed (taking_one ts site) untold) (suc seen) (length site.sent) kept_hints ks site) page
+          ∙ ap (λ (es : List ModelEntry). record (take_entry ts site) { sent = take (length site.sent) es; unsent = drop (length site.sent) es }) (kept_are (length after.store)))))
 
       pub taken_is : IsSite new next first now shared flight
       taken_is =
@@ -157,7 +172,7 @@ module _ (editor : Replica) (untold : Untold) (seen : ℕ) (sent : List Entry) (
       ap (λ n. record left { seen = n }) (is_next ∙ ap (λ n. seen + n) (sym (length-map sent (entry_by_value editor.store))))
       ∙ (ap (λ es. record left { seen = seen + length (map (entry_by_value editor.store) sent); sent = map (entry_by_value editor.store) es }) none
       ∙ (ap (λ es. record left { seen = seen + length (map (entry_by_value editor.store) sent); sent = []; unsent = map (entry_by_value editor.store) es }) done
-      ∙ ap (λ ps. record left { seen = seen + length (map (entry_by_value editor.store) sent); sent = []; unsent = map (entry_by_value editor.store) old.done; undone = map parcel_by_value ps }) undone))
+      ∙ ap (λ ps. record left { seen = seen + length (map (entry_by_value editor.store) sent); sent = []; unsent = map (entry_by_value editor.store) old.done; undone = map parcel_by_value ps; undone_hints = map hint_of ps }) undone))
 
   pub acked_is : IsSite editor next none_sent now shared None
   acked_is =
@@ -173,14 +188,14 @@ module _ (editor : Replica) (untold : Untold) (seen : ℕ) (sent : List Entry) (
 module _ (editor : Replica) (untold : Untold) (seen : ℕ) (sent : List Entry) (old : Stacks) (shared : ℕ) (flight : Option ℕ) (is : IsSite editor seen sent old shared flight)
     (copy : Replica) (copied : List Entry) (now : Stacks) (page : copy ≡ editor) (same_sent : copied ≡ sent) (done : now.done ≡ old.done) (undone : now.undone ≡ []) where
   abbrev cleared : Site
-  cleared = record (site_of editor untold seen sent old shared flight) { undone = [] }
+  cleared = with_none_undone (site_of editor untold seen sent old shared flight)
 
   pub copied_same : site_of copy untold seen copied now shared flight ≡ cleared
   copied_same =
       ap (λ r. site_of r untold seen copied now shared flight) page
       ∙ (ap (λ es. record (site_of editor untold seen copied now shared flight) { sent = map (entry_by_value editor.store) es }) same_sent
-      ∙ (ap (λ es. record cleared { unsent = map (entry_by_value editor.store) es; undone = map parcel_by_value now.undone }) done
-      ∙ ap (λ ps. record cleared { undone = map parcel_by_value ps }) undone))
+      ∙ (ap (λ es. record cleared { unsent = map (entry_by_value editor.store) es; undone = map parcel_by_value now.undone; undone_hints = map hint_of now.undone }) done
+      ∙ ap (λ ps. record cleared { undone = map parcel_by_value ps; undone_hints = map hint_of ps }) undone))
 
   pub copied_is : IsSite copy seen copied now shared flight
   copied_is = record {

@@ -18,6 +18,7 @@ use Rattle.model_site_law.proofs.ReplayLemmas.{AllRun-parts, flattened-append, p
 use Rattle.model_site_law.proofs.ReplicaLemmas.{take_foreign_keep}
 use Rattle.model_site_law.proofs.RevertLemmas.{items_all_reverted}
 use Rattle.model_site_law.proofs.SiteLemmas.{foreign_holds}
+use Rattle.ve_site.specs.Underway.{with_none_undone}
 use Rattle.ve_site.specs.Ground.{Stands, ground_of, as_opened}
 use Rattle.ve_site.proofs.StandsLemmas.{Selects, ground_is, selects_kept, stands_on}
 
@@ -115,6 +116,6 @@ may_take_next foreign others s h run =
     record { run = parts.0; others_run = subst (AllRun (flattened others)) (sym (has_taken foreign s h parts.0).ground) parts.1 }
 
 -- what was undone doesn't matter
-pub taken_anyway : (entries : List Parcel) (s : Site) → take_foreign entries (record s { undone = [] }) ≡ take_foreign entries s
+pub taken_anyway : (entries : List Parcel) (s : Site) → take_foreign entries (with_none_undone s) ≡ take_foreign entries s
 taken_anyway [] s = refl
 taken_anyway (entry ∷ entries) s = refl

@@ -31,7 +31,7 @@ use Rattle.ve_editor.specs.Counted.{steps_over}
 use Rattle.ve_history.specs.Stacks.{Stacks, without_last}
 use Rattle.model_site.specs.Made.{undoing}
 use Rattle.ve_site.specs.Ground.{AreOver, Stands, ground_of}
-use Rattle.ve_site.specs.Numbered.{site_of, IsSite}
+use Rattle.ve_site.specs.Numbered.{hint_of, site_of, IsSite}
 use Rattle.ve_site.specs.Refusal.{IsUndoRefusal}
 use Rattle.ve_site.proofs.OverLemmas.{IsLast, over_last, over_grown, over_cites, cite_parts, entries_extended, prefix_extends, prefix_stays}
 use Rattle.ve_site.proofs.StandsLemmas.{all_stand, undone_stands, untold_stands}
@@ -150,7 +150,7 @@ module _ (editor : Replica) (untold : Untold) (seen : ℕ) (sent : List Entry) (
         entries_extended (take last.store_before editor.store) new.store es left_extends h
         ∙ sym (entries_extended (take last.store_before editor.store) editor.store es (prefix_extends last.store_before editor.store) h)
 
-    module _ (parcel : Parcel) (now : Stacks) (later : Untold) (by_values : parcel_by_value parcel ≡ x.txs) (done : now.done ≡ others) (undone : now.undone ≡ parcel ∷ old.undone)
+    module _ (parcel : Parcel) (now : Stacks) (later : Untold) (by_values : parcel_by_value parcel ≡ x.txs) (hint : hint_of parcel ≡ last.takes_back) (done : now.done ≡ others) (undone : now.undone ≡ parcel ∷ old.undone)
         (noted : later ≡ passed (reversal x.txs) untold) where
       undone_same : site_of new later seen sent now shared flight ≡ with_undone x (map (entry_by_value editor.store) others) site
       undone_same =
@@ -161,8 +161,9 @@ module _ (editor : Replica) (untold : Untold) (seen : ℕ) (sent : List Entry) (
           ∙ (ap (λ r. record left { replica = r }) page
           ∙ (ap (λ es. record left { replica = reverted x editor; sent = es }) (same_by_value sent parts.0)
           ∙ (ap (λ es. record left { replica = reverted x editor; sent = site.sent; unsent = es }) (ap (map (entry_by_value new.store)) done ∙ same_by_value others parts.1)
-          ∙ (ap (λ ps. record there { undone = map parcel_by_value ps }) undone
-          ∙ ap (λ ts. record there { undone = ts ∷ site.undone }) by_values))))
+          ∙ (ap (λ ps. record there { undone = map parcel_by_value ps; undone_hints = map hint_of ps }) undone
+          ∙ (ap (λ ts. record there { undone = ts ∷ site.undone; undone_hints = hint_of parcel ∷ site.undone_hints }) by_values
+          ∙ ap (λ h. record there { undone_hints = h ∷ site.undone_hints }) hint)))))
 
       pub undo_is : undo site ≡ Ok (site_of new later seen sent now shared flight)
       undo_is = ap (λ es. undo_last es site) unsent_is ∙ (undone_end (map (entry_by_value editor.store) others) x site ∙ ap (λ s. Ok s) (sym undone_same))

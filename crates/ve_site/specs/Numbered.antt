@@ -4,6 +4,7 @@ use Rattle.model_site.specs.Replica.{Replica}
 use Rattle.model_site.specs.Site.{Site}
 use Rattle.model_site.specs.Untold.{Untold}
 use Rattle.ve_tx.specs.declared.entry.Entry.{Entry}
+use Rattle.ve_tx.specs.declared.parcel.Parcel.{Parcel}
 use Rattle.ve_tx.specs.ByValue.{parcel_by_value, ParcelCites}
 use Rattle.ve_editor.specs.Edited.{entry_by_value}
 use Rattle.ve_history.specs.Stacks.{Stacks}
@@ -12,6 +13,10 @@ use Rattle.ve_site.specs.Ground.{Stands, AreOver}
 pub record Numbered : Type 0 where
   pub number : ℕ
   pub site : Site
+
+-- what a parcel takes back
+abbrev pub hint_of : Parcel → Option ℕ
+hint_of p = p.entry.takes_back
 
 -- with another site under its number
 abbrev pub with_site : Site → Numbered → Numbered
@@ -26,6 +31,7 @@ site_of editor untold seen sent history shared in_flight = record {
   sent = map (entry_by_value editor.store) sent;
   unsent = map (entry_by_value editor.store) history.done;
   undone = map parcel_by_value history.undone;
+  undone_hints = map hint_of history.undone;
   shared = shared;
   in_flight = in_flight;
 }

@@ -26,6 +26,7 @@ with_new_entry new e site = record site {
   untold = passed (entry_by_value new.store e).txs site.untold;
   unsent = site.unsent ++ entry_by_value new.store e ∷ [];
   undone = [];
+  undone_hints = [];
 }
 
 -- So it is the site with these transactions as a new entry.

@@ -1,5 +1,5 @@
 -- A copy of a site while it takes entries of other sites. For private functions.
-use Rattle.std.specs.Prelude.{◌≡◌, ◌≤◌, ℕ, ◌+◌, List, length, map, take, Option, Some, None}
+use Rattle.std.specs.Prelude.{◌≡◌, ◌≤◌, ℕ, ◌+◌, List, [], length, map, take, Option, Some, None}
 use Rattle.model_site.specs.Entries.{Parcel as ModelParcel}
 use Rattle.model_site.specs.Site.{Site, pending}
 use Rattle.model_site.specs.Take.{take_entry, take_foreign}
@@ -27,6 +27,10 @@ pub record HaveTaken (parcels : List Parcel) (old : Taking) (count : ℕ) (new :
   pub within : count ≤ length parcels
   pub site : taking_site new ≡ take_foreign (map parcel_by_value (take count parcels)) (taking_site old)
   pub is : IsTaking new
+
+-- nothing may be redone then
+abbrev pub with_none_undone : Site → Site
+with_none_undone s = record s { undone = []; undone_hints = [] }
 
 -- these entries are taken on a copy
 abbrev pub MakesCopy : List ModelParcel → Site → Type 0

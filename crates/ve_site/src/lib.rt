@@ -1,10 +1,10 @@
 //! A site: its editor, the entries that it sent and has no answer for, those that it has not sent,
 //! and those that it undid. Each call is the model's, but for want of memory: `edit`, `attempt`,
 //! `settle`, `undo`, `redo`, `adopt`, `send`, `take`, `select` and `tell` make of a site what model_site
-//! says, or refuse it exactly where that does. `pending` gives its pending entries serialised, and
-//! `told` what changed in its list since `tell`, as patches. `ends` says how many items its pending
-//! entries leave as they were, at a list's beginning and at its end: the least that one of their
-//! transactions leaves there. `ends_under` says it of others (specs/Ends.antt).
+//! says, or refuse it exactly where that does. `pending` gives its pending entries serialised, with
+//! what they take back, and `told` what changed in its list since `tell`, as patches. `ends` says how
+//! many items its pending entries leave as they were, at a list's beginning and at its end: the least
+//! that one of their transactions leaves there. `ends_under` says it of others (specs/Ends.antt).
 //!
 //! Proved: but for want of memory, each call is the model's, or is refused as it is. Where a call
 //! fails nothing changes. An edit, an undo, a redo, an adoption and a take have bounds on their

@@ -1,10 +1,10 @@
 // A site.
 ghost use Rattle.std.specs.Prelude.{◌≡◌, ◌≢◌, ◌≤◌, ◌+◌, ◌==◌, if◌then◌else◌, List, [], ◌∷◌, Ok, length, ◌↔◌, IsTrue, IsOk, IfOk, IfErr, OnOk, OnErr};
 ghost use Rattle.model_change.specs.Transaction.{Transaction, InsertedApart};
-ghost use Rattle.model_site.specs.Entries.{entry_of, parcels, reverted};
+ghost use Rattle.model_site.specs.Entries.{hints, parcels};
 ghost use Rattle.model_site.specs.Replica.{all_performed};
 ghost use Rattle.model_change.specs.Replay.{AllRun};
-ghost use Rattle.model_site.specs.Site.{Site as ModelSite, edit, pending, redo, send, starting, undo, told, with_entry, with_selection, with_told};
+ghost use Rattle.model_site.specs.Site.{Site as ModelSite, edit, pending, redo, send, starting, undo, told, with_entry_against, with_selection, with_told};
 ghost use Rattle.model_site_law.specs.Sound.{AllMayRun, Sound};
 ghost use Rattle.model_site_law.specs.SelectionLaws.{StandsIn};
 
@@ -283,9 +283,9 @@ impl Site {
         Ok(())
     }
 
-    /// Performs the last undone entry again, as a new entry. `NothingToRedo` comes exactly where
-    /// nothing was undone since the last edit or take that was not redone, and want of memory only
-    /// where something was. An `Err` changes nothing.
+    /// Performs the last undone entry again, as a new entry that takes back what it took back.
+    /// `NothingToRedo` comes exactly where nothing was undone since the last edit or take that was
+    /// not redone, and want of memory only where something was. An `Err` changes nothing.
     pub fn redo<L: Ledger>(&mut self, steps: &mut Steps<L>) -> Result<(), RedoFault>
         ensures site { OnOk result (redo self.old.site ≡ Ok self.new.site) }
         ensures number { self.new.number ≡ self.old.number }
@@ -324,9 +324,11 @@ impl Site {
         self.history.done().is_empty()
     }
 
-    /// Its pending entries, serialised: those that it sent, and then those that it has not sent.
+    /// Its pending entries, serialised, and what they take back: those that it sent, and then those
+    /// that it has not sent.
     pub fn pending(&self) -> Result<Parcels, Memory>
-        ensures { IfOk result (λ entries. entries ≡ parcels (pending self.now.site)) }
+        ensures entries { IfOk result (λ all. all.entries ≡ parcels (pending self.now.site)) }
+        ensures hints { IfOk result (λ all. all.hints ≡ hints (pending self.now.site)) }
     {
         let store = self.editor.doc().store;
         let mut entries = parcels_of(self.alloc, self.sent.as_slice(), store)?;
@@ -334,15 +336,17 @@ impl Site {
         Ok(entries)
     }
 
-    /// Performs a parcel as a new entry of its own, as one that takes a committed entry back;
-    /// undone entries can't be redone then. The parcel's transactions have to run on the list. The
-    /// limits of items and of values don't bind it. An `Err` changes nothing.
+    /// Performs a parcel as a new entry of its own, which takes back what the parcel does; undone
+    /// entries can't be redone then. The parcel's transactions have to run on the list. The limits
+    /// of items and of values don't bind it. An `Err` changes nothing.
     pub fn adopt<L: Ledger>(&mut self, back: &Parcel, steps: &mut Steps<L>) -> Result<(), Memory>
         requires cites { ParcelCites back.now }
         requires run { AllRun (parcel_by_value back.now) self.old.site.replica.items }
         ensures site { OnOk result (
             self.new
-            ≡ with_site (with_entry (parcel_by_value back.now) self.old.site) self.old) }
+            ≡ with_site (
+            with_entry_against back.now.entry.takes_back (parcel_by_value back.now) self.old.site)
+            self.old) }
         ensures kept { OnErr result (self.new ≡ self.old) }
         ensures counted { steps.old ≤ steps.new }
         ensures steps { steps.new

@@ -175,13 +175,13 @@ impl Site {
         entries: &Parcels,
         steps: &mut Steps<L>,
     ) -> Result<usize, Memory>
-        requires run { AllRun (flattened entries.now) (ground_of self.old.site) }
+        requires run { AllRun (flattened entries.now.entries) (ground_of self.old.site) }
         ensures site { OnOk result (
-            self.new ≡ with_site (take_foreign entries.now self.old.site) self.old) }
+            self.new ≡ with_site (take_foreign entries.now.entries self.old.site) self.old) }
         ensures left { IfOk result (λ left. left ≡ length (pending self.new.site)) }
         ensures kept { OnErr result (self.new ≡ self.old) }
         ensures counted { steps.old ≤ steps.new }
-        ensures steps { steps.new ≤ steps.old + steps_of_feed entries.now self.old.site }
+        ensures steps { steps.new ≤ steps.old + steps_of_feed entries.now.entries self.old.site }
     {
         let parcels = entries.as_slice();
         if let Some(left) = self.take_in_place(parcels, steps)? {

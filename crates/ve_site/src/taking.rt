@@ -8,7 +8,7 @@ ghost use Rattle.ve_tx.specs.ByValue.{parcel_by_value, ParcelCites};
 ghost use Rattle.model_change.specs.Cost.{cost_of_transactions};
 ghost use Rattle.ve_site.specs.Ground.{ground_of};
 ghost use Rattle.model_site.specs.Made.{taking_all, taking_one};
-ghost use Rattle.ve_site.specs.Underway.{HaveTaken, IsTaking, taking_site};
+ghost use Rattle.ve_site.specs.Underway.{HaveTaken, IsTaking, taking_site, with_none_undone};
 
 use crate::Site;
 use crate::pending::{admit_each, admit_under, note_dropped, parted, renumbered};
@@ -38,7 +38,7 @@ impl Taking {
     /// A copy of a site, with nothing undone.
     pub fn of<L: Ledger>(site: &Site, steps: &mut Steps<L>) -> Result<Taking, Memory>
         ensures site { IfOk result (λ taking.
-            taking_site taking ≡ record site.now.site { undone = [] }) }
+            taking_site taking ≡ with_none_undone site.now.site) }
         ensures is { IfOk result IsTaking }
         ensures counted { steps.old ≤ steps.new }
         ensures steps { steps.new ≤ steps.old + cost_of_tree site.now.site.replica.items }

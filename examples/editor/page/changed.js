@@ -1,6 +1,7 @@
 // What changed. The program tells patches, `[at, removed, inserted]`, each over the list that those before it left, and the items that
-// came. The window puts them into the nodes round them, and makes of all together one change, `{ at, gone, came }`: the items that stood
-// at the place, and how many stand there now.
+// came. The window puts them into the nodes round them, and makes of all together one change, `{ at, gone, came }`: how many items stood at
+// the place, and how many stand there now.
+import { Reader, append } from "./items.js";
 import { isContent, itemsOf, parse, startOf } from "./tree.js";
 
 // The fewest whole siblings, none of them in a content branch, that cover the range.
@@ -33,7 +34,6 @@ function wider({ parent }) {
 
 // The one range that patches change: where it begins, how many items it had, and how many it has.
 function together(patches) {
-  if (patches.length === 0) return null;
   let at = patches[0][0], gone = 0, came = 0;
   for (const [place, removed, inserted] of patches) {
     // what stands between the patch and the range so far is in it, too
@@ -45,69 +45,70 @@ function together(patches) {
   return { at, gone, came };
 }
 
-const same = (a, b) => a === b || (typeof a === "object" && typeof b === "object" && JSON.stringify(a) === JSON.stringify(b));
-
-// Runs as their characters, so that each entry is an item.
-function single(items) {
-  return items.flatMap((item) => {
-    if (typeof item === "string") return [...item];
-    return Array.isArray(item) ? [...item[0]].map((char) => [char, item[1]]) : [item];
-  });
+// What becomes of so many items: segments that stay, each with its place among them, and holes.
+function segments(size, patches, from) {
+  let list = [{ from: 0, size }];
+  for (const [at, removed, inserted] of patches) {
+    const [before, rest] = parted(list, at - from);
+    const hole = inserted ? [{ from: null, size: inserted }] : [];
+    list = [...before, ...hole, ...parted(rest, removed)[1]];
+  }
+  return list;
 }
 
-// The other way: characters beside each other whose marks are the same as one run.
-function runs(items) {
+function parted(list, count) {
+  let k = 0, left = count;
+  for (; k < list.length && list[k].size <= left; k++) left -= list[k].size;
+  if (left === 0) return [list.slice(0, k), list.slice(k)];
+  const { from, size } = list[k];
+  const second = { from: from === null ? null : from + left, size: size - left };
+  return [[...list.slice(0, k), { from, size: left }], [second, ...list.slice(k + 1)]];
+}
+
+// The items of siblings after patches.
+function patched(before, size, { patches, came }, from) {
+  const old = new Reader(before), fresh = new Reader(came.flatMap(([, items]) => items));
   const out = [];
-  for (const item of items) {
-    const last = out.at(-1);
-    if (typeof item === "string" && typeof last === "string") out[out.length - 1] += item;
-    else if (Array.isArray(item) && Array.isArray(last) && same(item[1], last[1])) last[0] += item[0];
-    else out.push(Array.isArray(item) ? [...item] : item);
+  let at = 0;
+  for (const segment of segments(size, patches, from)) {
+    if (segment.from === null) {
+      append(out, fresh.take(segment.size));
+    } else {
+      old.take(segment.from - at);
+      append(out, old.take(segment.size));
+      at = segment.from + segment.size;
+    }
   }
   return out;
 }
 
-// The items of siblings before patches and after them.
-function patched({ parent, first, last, from }, { patches, came }) {
-  const before = single(itemsOf(parent.kids.slice(first, last)));
-  let after = before;
-  for (const [at, removed, inserted] of patches) {
-    after = [...after.slice(0, at - from), ...Array(inserted), ...after.slice(at - from + removed)];
-  }
-  for (const [at, items] of came) single(items).forEach((item, k) => (after[at - from + k] = item));
-  return [before, after];
-}
-
-// What a turn's patches make of the tree: the siblings that they touch, the nodes that come in the place of these, and the one change,
-// nothing where the items are what they were. Nothing at all where no patch came.
-export function renewed(root, turn) {
-  const range = together(turn.patches);
-  return range && renewedIn(cover(root, range.at, range.at + range.gone), range, turn);
-}
-
 // Where brackets of the siblings lost their partners, these stand round them.
 function renewedIn(span, range, turn) {
-  const [before, after] = patched(span, turn);
-  const fresh = parse(runs(after));
+  const before = itemsOf(span.parent.kids.slice(span.first, span.last));
+  const fresh = parse(patched(before, span.to - span.from, turn, span.from));
   if (!fresh) return renewedIn(wider(span), range, turn);
-  const begin = range.at - span.from;
-  const gone = before.slice(begin, begin + range.gone), came = after.slice(begin, begin + range.came);
-  return { ...span, fresh, change: difference(range.at, gone, came) };
+  return { ...span, fresh, change: range };
 }
 
-// The least change that puts items in the place of others.
-function difference(at, gone, came) {
-  let head = 0, tail = 0;
-  const most = Math.min(gone.length, came.length);
-  while (head < most && same(gone[head], came[head])) head++;
-  while (tail < most - head && same(gone.at(-1 - tail), came.at(-1 - tail))) tail++;
-  if (head === gone.length && head === came.length) return null;
-  return { at: at + head, gone: gone.slice(head, gone.length - tail), came: came.length - head - tail };
+/**
+ * What a turn's patches make of the tree: the siblings that they touch, the nodes that come in the place of these, and the one change.
+ * Nothing where no patch came.
+ * @param {TreeNode} root
+ * @param {Pick<Turn, "patches" | "came">} turn
+ */
+export function renewed(root, turn) {
+  if (turn.patches.length === 0) return null;
+  const range = together(turn.patches);
+  return renewedIn(cover(root, range.at, range.at + range.gone), range, turn);
 }
 
-// Where an offset stands after a change. What stood in its place stands at its end.
-export function mapped(at, change) {
-  if (!change || at < change.at) return at;
-  const end = change.at + change.gone.length;
-  return at >= end ? at + change.came - change.gone.length : change.at + change.came;
+/**
+ * Where an offset stands after patches. What stood in the place of one stands at its end.
+ * @type {(at: number, patches: Patch[]) => number}
+ */
+export function moved(at, patches) {
+  return patches.reduce((place, [from, removed, inserted]) => {
+    if (place < from) return place;
+    return place >= from + removed ? place + inserted - removed : from + inserted;
+  }, at);
 }

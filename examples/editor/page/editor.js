@@ -1,14 +1,14 @@
-// The editor: its tree, its selection, and the turns by which they change. Everything that a user does is an intent, a function that is
-// called when its turn comes; so it sees the list and the selection as the turn before left them, however fast the keys come.
-import { mapped, renewed } from "./changed.js";
-import { History, backwards } from "./history.js";
-import { accepted } from "./link.js";
-import { caretPlace, innermost, isContent, newRoot, startOf } from "./tree.js";
-import { typed } from "./text.js";
+// The editor: its tree, its selection, and the turns by which they change. What a user does is an intent, a function that is given the
+// editor and gives an edit. Its lines are done at once, in the page's own world, and the screen shows what came of them.
+import { moved, renewed } from "./changed.js";
+import { History, LATER } from "./history.js";
+import { Pairs } from "./pairs.js";
+import { nameOf } from "./people.js";
+import { Places } from "./places.js";
+import { accepted, makesChange } from "./session.js";
+import { caretPlace, newRoot } from "./tree.js";
+import { erased, typed } from "./text.js";
 import { View } from "./view.js";
-
-// A turn without an edit still tells where the selection is, and takes what others did.
-const NOTHING = { lines: [] };
 
 export class Editor {
   root = newRoot();
@@ -16,192 +16,146 @@ export class Editor {
   marks = new Map(); // tags that the next typed text shall have, or not have, whatever stands on its left
   history = new History();
   view;
-  seen = 0; // how many committed entries the list holds
-  #link;
-  #turns = Promise.resolve();
-  #waiting = []; // intents whose turn hasn't come
-  #unfinished = 0; // these, and the one whose turn it is
-  #moved = false; // the program wasn't told of the selection yet
-  #hold = null; // a promise, while an input method writes
-  #stopped = false;
-  #behind = false; // others changed the page, and the turn that takes it waits
+  places;
+  session;
+  page; // which page it is: what was copied of it can be put back there alone
   #heard;
+  #waiting = []; // intents that can't be done yet
+  #isHeld = false; // an input method writes
+  #moved = false; // the world wasn't told of the selection yet
 
-  // `heard` has a function for each event: changed, where list or selection did, notice and stopped.
-  constructor(host, link, heard) {
-    this.view = new View(host, this.root);
-    this.#link = link;
+  /** `heard` has a function for each event: changed, where list or selection did, drawn, where more was, and notice. */
+  constructor(host, heard) {
+    const pairs = new Pairs();
+    this.view = new View(host, this.root, pairs, () => heard.drawn());
+    this.places = new Places(host, this.root, pairs, this.view);
     this.#heard = heard;
   }
 
-  // What the window shows first: all of the page.
-  async open(seen) {
-    this.seen = seen;
-    await this.act(() => NOTHING);
+  /** Shows the list of a site. */
+  open(session, page) {
+    this.session = session;
+    this.page = page;
+    this.catchUp();
     this.place(Array(2).fill(caretPlace(this.root, 0, true)));
   }
 
-  // An intent gives an edit, a text to tell the user, or nothing. Its promise is done when the screen shows what came of it.
+  /** An intent gives an edit, a text to tell the user, or nothing. */
   act(intent) {
     this.look();
     this.#waiting.push(intent);
-    this.#unfinished++;
-    const turn = this.#turns.then(async () => {
-      await this.#hold;
-      const next = this.#waiting.shift();
-      if (this.#stopped) return;
-      const edit = next(this);
+    this.#goOn();
+  }
+
+  #goOn() {
+    while (this.#waiting.length && !this.#isHeld) {
+      const edit = this.#waiting[0](this);
+      if (edit === LATER) return;
+      this.#waiting.shift();
       if (typeof edit === "string") this.#heard.notice(edit);
-      else if (edit) await this.#run(edit, next);
-    });
-    this.#turns = turn.catch((error) => this.#stop(error)).finally(() => this.#unfinished--);
-    return this.#turns;
-  }
-
-  // A turn that failed in the middle, as where the connection was cut: the window doesn't know its site's list any more.
-  #stop(error) {
-    this.#stopped = true;
-    this.#heard.stopped(error.message);
-  }
-
-  // Whether something that was done isn't on the screen yet.
-  get busy() {
-    return this.#unfinished > 0;
-  }
-
-  // Keys that come faster than turns are typed as one text.
-  type(text) {
-    this.look();
-    const last = this.#waiting.at(-1);
-    if (last?.text) {
-      last.text += text;
-      return this.#turns;
+      else if (edit) this.#run(edit);
     }
-    const intent = () => typed(this.root, this.selection, intent.text, this.marks);
-    intent.text = text;
-    return this.act(intent);
   }
 
-  // Others changed the page.
+  /** While an input method writes nothing is drawn, or it would lose its place. */
+  hold() {
+    this.#isHeld = true;
+  }
+
+  release() {
+    this.#isHeld = false;
+    this.#goOn();
+    this.catchUp();
+  }
+
+  /** Takes what the log has brought. */
   catchUp() {
-    if (this.#behind) return;
-    this.#behind = true;
-    this.act(() => {
-      this.#behind = false;
-      return NOTHING;
-    });
+    if (this.#isHeld) return;
+    this.#run({ lines: [] });
+    this.#goOn();
   }
 
-  // Reads where the browser's selection is. Its event comes some time after the user moved it, and the next key may come before.
-  look() {
-    const selection = this.#hold ? null : this.view.selection();
-    if (!selection || String(selection) === String(this.selection)) return;
-    this.selection = selection;
-    this.marks = new Map();
-    this.#moved = true;
-    this.#heard.changed(null);
-    // the others are told where it is; an edit that waits tells them, too
-    this.#tell();
+  type(text) {
+    this.act(() => typed(this.root, this.selection, text, this.marks));
   }
 
-  #tell() {
-    if (this.#moved && this.#waiting.length === 0) this.act(() => (this.#moved ? NOTHING : null));
-  }
-
-  // Puts the selection somewhere.
-  place(selection) {
-    this.selection = selection;
-    this.#moved = true;
-    this.view.select(...selection);
-    this.#reveal();
-    this.#tell();
-  }
-
-  hold(promise) {
-    this.#hold = promise;
+  erase(dir, by) {
+    this.act(() => erased(this.root, this.selection, dir, by));
   }
 
   undo() {
-    return this.act(() => this.#back(this.history.undo(), "undo"));
+    this.act(() => this.history.undo(this.session));
   }
 
   redo() {
-    return this.act(() => this.#back(this.history.redo(), "redo"));
+    this.act(() => this.history.redo(this.session));
   }
 
-  #back({ step, put }, word) {
-    if (!step) return `There is nothing to ${word}`;
-    const { entries, change } = step;
-    const edit = { put, reveal: true, lines: [...entries].reverse().map((entry) => ({ do: "revoke", entry })) };
-    const refused = `This can't be ${word === "undo" ? "undone" : "redone"}: a later change stands in its place`;
-    const again = change && { ...edit, lines: [backwards(change, this.root.size)], otherwise: () => refused };
-    return { ...edit, otherwise: (foreign) => (foreign ? refused : (again ?? refused)) };
+  /** The cells of the table at a place, or nothing where they can't be told. */
+  grid(at) {
+    const reply = this.session.read({ do: "grid", at });
+    return accepted(reply) ? JSON.parse(reply.split(" ")[3]) : null;
   }
 
-  async #run(edit, intent) {
-    const told = this.#moved ? [{ do: "select", anchor: this.selection[0], focus: this.selection[1] }] : [];
-    this.#moved = false;
-    const turn = await this.#link.turn([...told, ...edit.lines]);
+  /** Reads where the browser's selection is. Its event comes some time after the user moved it, and the next key may come before. */
+  look() {
+    const selection = this.#isHeld ? null : this.places.selection();
+    if (!selection || String(selection) === String(this.selection)) return;
+    this.#go(selection);
+    this.#heard.changed([]);
+  }
+
+  /** Puts the selection somewhere. */
+  place(selection) {
+    this.#go(selection);
+    this.places.select(...selection);
+    this.#reveal();
+    this.#heard.changed([]);
+  }
+
+  #go(selection) {
+    this.selection = selection;
+    this.marks = new Map();
+    this.history.pause();
+    this.#moved = true;
+  }
+
+  #run(edit) {
+    const told = this.#moved && edit.lines.length ? [{ do: "select", anchor: this.selection[0], focus: this.selection[1] }] : [];
+    const made = { ...edit, lines: [...told, ...edit.lines], numbers: [] };
+    const turn = this.session.turn(made);
     const refused = turn.replies.find((reply) => !accepted(reply));
-    if (refused) {
-      this.#moved = told.length > 0;
-      await this.#heed(turn, null);
-      const other = edit.otherwise?.(turn.taken.length > 0);
-      if (other?.lines) return this.#run(other, intent);
-      return this.#heard.notice(other ?? `The program refused: ${refused}`);
+    if (edit.lines.length && !refused) {
+      this.#moved = false;
+      if (made.again || made.lines.some(makesChange)) this.history.note(made);
     }
-    await this.#heed(turn, edit);
-    const { dropped } = turn.taken.find((one) => one.dropped) ?? {};
-    if (!dropped) return;
-    // What was typed is typed again where the caret went; anything else might now do what nobody meant.
-    if (edit.kind === "type" && !edit.again) return this.#run({ ...intent(this), again: true }, intent);
-    this.#heard.notice("Somebody changed the same place at once: your last change was dropped");
+    for (const { edit: one, number } of turn.numbered) one?.numbers.push(number);
+    this.#show(turn, made);
+    if (refused) this.#heard.notice(edit.refused?.(refused) ?? `The core refused: ${refused}`);
+    if (turn.dropped.length) this.#drop(turn.dropped);
   }
 
-  // Shows what a turn brought, keeps what undo needs, and takes over the selection that the program moved along.
-  async #heed(turn, edit) {
-    const foreign = turn.taken.some((one) => one.foreign);
-    const mine = turn.taken.flatMap((one) => {
-      const first = this.seen;
-      this.seen += one.foreign ?? one.ack;
-      return Array.from({ length: one.ack ?? 0 }, (_, k) => first + k);
-    });
-    await this.#hold; // an input method loses its place where the text round it is drawn anew
-    // what the user selected meanwhile is selected on what the screen still shows
-    this.look();
-    const change = this.#show(turn);
-    this.#remember(edit, change, mine, foreign);
-    // where the user moved the selection meanwhile it stays, among what is there now
-    this.selection = this.#moved ? this.selection.map((at) => mapped(at, change)) : turn.caret;
-    if (!this.#moved && edit?.came && change) this.#moveAfter(edit.came, change);
-    if (!this.#moved && edit?.reveal && change) this.#moveTo(change.at + change.came);
-    if (edit?.kind) this.marks = new Map();
-    if (change || edit?.lines.length) this.view.select(...this.selection);
-    if (edit?.lines.length) this.#reveal();
-    this.#heard.changed(change);
-    this.#tell();
-  }
-
-  #show(turn) {
+  // Shows what a turn brought, and takes over the selection that the world moved along, or moves the one that it wasn't told.
+  #show(turn, edit) {
     const next = renewed(this.root, turn);
     if (next) this.view.update(next.parent, next.first, next.last, next.fresh);
-    return next?.change ?? null;
+    this.selection = this.#moved ? this.selection.map((at) => moved(at, turn.patches)) : turn.caret;
+    if (edit.reveal && next && !this.#moved) this.#moveTo(next.change.at + next.change.came);
+    if (edit.kind) this.marks = new Map();
+    if (next || edit.lines.length) this.places.select(...this.selection);
+    if (edit.lines.length) this.#reveal();
+    this.#heard.changed(turn.patches);
   }
 
-  #remember(edit, change, entries, foreign) {
-    if (foreign && entries.length) this.history.forget();
-    else if (foreign && change) this.history.shift(change);
-    if (!entries.length || !edit) return;
-    const step = { entries, change: foreign ? null : change, kind: edit.kind, time: performance.now() };
-    if (edit.put) edit.put(step);
-    else this.history.note(step);
-  }
-
-  // After a paste: at the end of what came, not in the rest of the branch that it parted.
-  #moveAfter({ blocks, after }, change) {
-    const end = change.at + change.came, rest = innermost(this.root, end);
-    if (blocks) this.#moveTo(isContent(rest) ? startOf(rest) : end);
-    else this.#moveTo(after === null ? end : after + change.came - change.gone.length);
+  // What was typed is typed again where the caret went; anything else might now do what nobody meant.
+  #drop(dropped) {
+    for (const { edit } of dropped) if (edit) this.history.forget(edit);
+    const typing = ({ edit }) => edit?.kind === "type" && !edit.isAgain;
+    const text = dropped.filter(typing).map(({ edit }) => edit.text).join("");
+    const gone = dropped.filter((one) => !typing(one)).map(({ edit }) => edit?.what ?? "an earlier change");
+    const who = nameOf(dropped[0].who), names = [...new Set(gone)].join(", ");
+    if (gone.length) this.#heard.notice(`${who} changed the same place at once, and came first. So this was dropped: ${names}`);
+    if (text) this.act(() => ({ ...typed(this.root, this.selection, text, this.marks), isAgain: true }));
   }
 
   #moveTo(at) {
@@ -212,7 +166,7 @@ export class Editor {
 
   // Scrolls so far that the caret is seen.
   #reveal() {
-    const box = this.view.box(this.selection[1]);
+    const box = this.places.box(this.selection[1]);
     if (box.top < 70) scrollBy(0, box.top - 90);
     else if (box.bottom > innerHeight - 20) scrollBy(0, box.bottom - innerHeight + 60);
   }

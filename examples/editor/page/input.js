@@ -1,39 +1,34 @@
-// What the user does, as intents of the editor. The browser changes nothing of the page by itself: each `beforeinput` is taken from it,
-// but for those of an input method, which writes into the document until its text is chosen.
+// What the user does by keys, as intents of the editor. The browser changes nothing of the page by itself: each `beforeinput` is taken from
+// it, but for those of an input method, which writes into the document until its text is chosen.
 import { indented, kindsAt, outdented } from "./blocks.js";
-import { ends } from "./edits.js";
-import { cleaned, cleanedText } from "./paste.js";
-import { broken, erased, parted, pasted, typed } from "./text.js";
-import { commonOf, innermost } from "./tree.js";
+import { movedBy } from "./moving.js";
+import { besideCell, inTable, tableChanged } from "./tables.js";
+import { broken, parted } from "./text.js";
+import { caretPlace, shown } from "./tree.js";
 
-// The keys by which the browser moves the caret: the direction, by what, and by what with Ctrl.
-const MOVES = {
-  ArrowLeft: ["left", "character", "word"],
-  ArrowRight: ["right", "character", "word"],
-  ArrowUp: ["backward", "line", "paragraph"],
-  ArrowDown: ["forward", "line", "paragraph"],
-  Home: ["backward", "lineboundary", "documentboundary"],
-  End: ["forward", "lineboundary", "documentboundary"],
-};
+const endOfShown = (root) => shown(root).reduce((size, kid) => size + kid.size, 0);
 
+/**
+ * @param {HTMLElement} host
+ * @param {import("./editor.js").Editor} editor
+ * @param {Record<string, () => void>} shortcuts
+ */
 export function listen(host, editor, shortcuts) {
-  const erase = (dir, by) => editor.act(({ root, selection }) => erased(root, selection, dir, by));
-
   const inputs = {
     insertText: ({ data }) => editor.type(data),
     insertReplacementText: (event) => {
       const [range] = event.getTargetRanges();
       const text = event.dataTransfer?.getData("text/plain") ?? event.data;
-      const place = [editor.view.offset(range.startContainer, range.startOffset), editor.view.offset(range.endContainer, range.endOffset)];
-      editor.place(place);
+      const { places } = editor;
+      editor.place([places.offset(range.startContainer, range.startOffset), places.offset(range.endContainer, range.endOffset)]);
       if (text) editor.type(text);
     },
     insertParagraph: () => editor.act(({ root, selection }) => parted(root, selection)),
     insertLineBreak: () => editor.act(({ root, selection }) => broken(root, selection)),
-    deleteContentBackward: () => erase("back", "cluster"),
-    deleteContentForward: () => erase("ahead", "cluster"),
-    deleteWordBackward: () => erase("back", "word"),
-    deleteWordForward: () => erase("ahead", "word"),
+    deleteContentBackward: () => editor.erase("back", "cluster"),
+    deleteContentForward: () => editor.erase("ahead", "cluster"),
+    deleteWordBackward: () => editor.erase("back", "word"),
+    deleteWordForward: () => editor.erase("ahead", "word"),
     historyUndo: () => editor.undo(),
     historyRedo: () => editor.redo(),
   };
@@ -46,26 +41,38 @@ export function listen(host, editor, shortcuts) {
 
   document.addEventListener("selectionchange", () => editor.look());
 
-  // The browser moves the caret on what is shown. Where keys before aren't on the screen yet, the move waits its turn as they do.
-  function move({ key, shiftKey, ctrlKey }) {
-    const [direction, by, byWithCtrl] = MOVES[key];
-    editor.act(() => {
-      document.getSelection().modify(shiftKey ? "extend" : "move", direction, ctrlKey ? byWithCtrl : by);
-      editor.look();
+  // What isn't drawn yet the browser doesn't know, so the ends of the page are ours.
+  function toEnd({ key, shiftKey }) {
+    editor.act(({ root, selection }) => {
+      const at = key === "Home" ? caretPlace(root, 0, true) : caretPlace(root, endOfShown(root));
+      editor.place([shiftKey ? selection[0] : at, at]);
+    });
+  }
+
+  // Tab goes from cell to cell, and makes a row at a table's end; in a list it takes the item deeper. Elsewhere it leads out of the page.
+  function tab(back) {
+    return editor.act(({ root, selection }) => {
+      if (!inTable(root, selection)) return (back ? outdented : indented)(root, selection);
+      const next = besideCell(root, selection, back);
+      if (next !== null) return editor.place([next, next]);
+      return back ? null : tableChanged(root, selection, "row_below", editor);
     });
   }
 
   host.addEventListener("keydown", (event) => {
     if (event.isComposing) return;
-    if (MOVES[event.key] && editor.busy) {
+    if (event.ctrlKey && (event.key === "Home" || event.key === "End")) {
       event.preventDefault();
-      move(event);
-      return;
+      toEnd(event);
     }
-    const inList = () => kindsAt(editor.root, editor.selection).list;
-    if (event.key === "Tab" && (editor.busy || inList())) { // elsewhere it leads out of the page, as in any form
+    if (event.altKey && (event.key === "ArrowUp" || event.key === "ArrowDown")) {
       event.preventDefault();
-      editor.act(({ root, selection }) => (event.shiftKey ? outdented : indented)(root, selection));
+      editor.act(({ root, selection }) => movedBy(root, selection, event.key === "ArrowUp" ? -1 : 1));
+    }
+    const { root, selection } = editor;
+    if (event.key === "Tab" && (inTable(root, selection) || kindsAt(root, selection).list)) {
+      event.preventDefault();
+      tab(event.shiftKey);
     }
     const shortcut = (event.ctrlKey || event.metaKey) && shortcuts[(event.shiftKey ? "shift+" : "") + event.key.toLowerCase()];
     if (shortcut) {
@@ -73,42 +80,4 @@ export function listen(host, editor, shortcuts) {
       shortcut();
     }
   });
-
-  // An input method: what it wrote is taken out of the document again, and typed as any other text.
-  let composing;
-  host.addEventListener("compositionstart", () => {
-    editor.hold(new Promise((end) => (composing = end)));
-  });
-  host.addEventListener("compositionend", ({ data }) => {
-    const [lo, hi] = ends(editor.selection);
-    editor.view.redraw(commonOf(innermost(editor.root, lo), innermost(editor.root, hi)));
-    editor.view.select(...editor.selection);
-    editor.hold(null);
-    composing();
-    if (data) editor.type(data);
-  });
-
-  host.addEventListener("paste", (event) => {
-    event.preventDefault();
-    const [html, text] = ["text/html", "text/plain"].map((type) => event.clipboardData.getData(type));
-    const piece = html ? cleaned(html) : cleanedText(text);
-    if (piece) editor.act(({ root, selection }) => (html ? pasted(root, selection, piece) : pastedText(root, selection, text, piece)));
-  });
-  const pastedText = (root, selection, text, piece) => (piece.blocks ? pasted(root, selection, piece) : typed(root, selection, text));
-
-  for (const what of ["copy", "cut"]) {
-    host.addEventListener(what, (event) => {
-      const chosen = document.getSelection();
-      if (chosen.isCollapsed) return;
-      event.preventDefault();
-      const box = document.createElement("div");
-      box.append(chosen.getRangeAt(0).cloneContents());
-      event.clipboardData.setData("text/html", box.innerHTML);
-      event.clipboardData.setData("text/plain", chosen.toString());
-      if (what === "cut") erase("back", "cluster");
-    });
-  }
-
-  // The browser would move DOM nodes.
-  for (const what of ["dragstart", "drop"]) host.addEventListener(what, (event) => event.preventDefault());
 }

@@ -1,28 +1,43 @@
 // Puts the parts together.
-import { Carets, nameOf } from "./carets.js";
+import { Carets } from "./carets.js";
+import { listenToClipboard } from "./clipboard.js";
+import { listenToInputMethods } from "./composing.js";
 import { Editor } from "./editor.js";
+import { listenToGrip } from "./grip.js";
 import { listen } from "./input.js";
-import { Link } from "./link.js";
+import { Keep } from "./keep.js";
+import { Log } from "./log.js";
+import { listenToMouse } from "./mouse.js";
+import { nameOf } from "./people.js";
+import { Astray } from "./session.js";
 import { toolbar } from "./toolbar.js";
+import { World, compile } from "./vemodel/world.js";
 
 const find = (selector) => document.querySelector(selector);
 const host = find("#page");
+const page = new URLSearchParams(location.search).get("page") ?? "sample.html";
 
+const STATES = {
+  shared: "",
+  alone: "No server is there. The page is kept in this browser.",
+  away: "The server isn't there. What you do is kept in this browser, and sent when it comes back.",
+};
 let fading;
-function notice(text, stays = false) {
+function notice(text) {
   const dom = find("#notice");
   dom.textContent = text;
   dom.hidden = false;
   clearTimeout(fading);
-  if (!stays) fading = setTimeout(() => (dom.hidden = true), 5000);
+  fading = setTimeout(() => (dom.hidden = true), 8000);
 }
 
 function stopped(why) {
   host.contentEditable = "false";
-  notice(`${why}. Load the page again to go on.`, true);
+  find("#state").textContent = `${why}. Load the page again to go on.`;
 }
 
-function showPeople(mine) {
+function showPeople() {
+  const mine = editor.session.site;
   const dots = [mine, ...carets.sites].map((site) => {
     const dom = Object.assign(document.createElement("span"), { className: "person", textContent: nameOf(site) });
     dom.dataset.site = site;
@@ -32,44 +47,61 @@ function showPeople(mine) {
   find("#people").replaceChildren(...dots);
 }
 
-let site;
-const link = new Link({
-  async hello(hello) {
-    site = hello.site;
-    for (const other of hello.others) carets.heard(other);
-    await editor.open(hello.seen);
+const editor = new Editor(host, {
+  changed(patches) {
+    tools.show();
+    carets.moved(patches, editor.session.seen);
+    log.tell({ seen: editor.session.seen, caret: editor.selection });
+  },
+  drawn: () => carets.show(),
+  notice,
+});
+const carets = new Carets(find("#carets"), editor.places);
+const tools = toolbar(find("#bar"), host, editor);
+
+const module = await compile();
+const log = new Log(page, () => new World(module), await Keep.open(page), {
+  opened(session) {
+    editor.open(session, log.id);
     host.contentEditable = "true";
     host.focus();
-    editor.view.select(...editor.selection);
-    showPeople(site);
+    editor.places.select(...editor.selection);
+    showPeople();
     document.documentElement.dataset.ready = "true";
   },
-  turn(other) {
+  brought: () => editor.catchUp(),
+  presence(other) {
     carets.heard(other);
-    if (other.changed) editor.catchUp();
-    carets.moved(null, editor.seen);
-    showPeople(site);
+    carets.moved([], editor.session.seen);
+    showPeople();
   },
-  left(other) {
-    carets.left(other.site);
-    showPeople(site);
+  left({ site }) {
+    carets.left(site);
+    showPeople();
   },
-  ended({ why }) {
-    stopped(why);
+  state(state) {
+    find("#state").textContent = STATES[state];
+    editor.catchUp(); // what waited for the server may go on otherwise
   },
-});
-
-const editor = new Editor(host, link, {
-  changed(change) {
-    tools.show();
-    carets.moved(change, editor.seen);
-  },
-  notice,
   stopped,
 });
-const carets = new Carets(find("#carets"), editor.view);
-const tools = toolbar(find("#bar"), host, editor);
+
+// What can't be mended by the user: the core ended, or the log has lines that aren't this window's.
+addEventListener("error", ({ error }) => (error?.name === "Ended" || error instanceof Astray) && stopped(error.message));
+
 listen(host, editor, tools.shortcuts);
+listenToInputMethods(host, editor);
+listenToMouse(host, editor);
+listenToClipboard(host, editor);
+listenToGrip(find("main"), host, editor);
+log.open();
+
+// The files that this page is made of are kept by the browser, so that it opens where no server is.
+navigator.serviceWorker?.register("offline.js").then(async () => {
+  const { active } = await navigator.serviceWorker.ready;
+  const files = performance.getEntriesByType("resource").map(({ name }) => name).filter((name) => /\.(js|css|wasm)$/.test(name));
+  active.postMessage([location.pathname, page, ...files]);
+});
 
 // for the console, and for the check
-globalThis.vemodel = { editor, link };
+globalThis.vemodel = { editor, log };

@@ -4,7 +4,10 @@ import { batch, ends, select } from "./edits.js";
 import { branchesIn, innerEnd, innerStart, innermost, isContent, leftOf, marksOf, runsIn } from "./tree.js";
 import { scalars } from "./scalars.js";
 
-// Which marks the whole selection has, and where it is collapsed, which ones typing would take.
+/**
+ * Which marks the whole selection has, and where it is collapsed, which ones typing would take.
+ * @type {(root: TreeNode, selection: Selected) => Mark[]}
+ */
 export function marksAt(root, selection) {
   const [lo, hi] = ends(selection);
   if (lo === hi) {
@@ -16,13 +19,16 @@ export function marksAt(root, selection) {
   return marksOf(runs[0].kid).filter((mark) => runs.every(({ kid }) => marksOf(kid).some(([tag]) => tag === mark[0])));
 }
 
-// Puts a mark on the selection, or takes it and those that look the same off where all of the selection has one. The items are new ones
-// then, so the selection has to be put on them again.
+/**
+ * Puts a mark on the selection, or takes it and those that look the same off where all of the selection has one. The items are new ones
+ * then, so the selection has to be put on them again.
+ * @type {(root: TreeNode, selection: Selected, tags: string[]) => Answer}
+ */
 export function toggled(root, selection, tags) {
   const [lo, hi] = ends(selection);
   const has = marksAt(root, selection).some(([tag]) => tags.includes(tag));
   const lines = has ? unmarked(root, lo, hi, tags) : [{ do: "mark", from: lo, to: hi, tag: tags[0] }];
-  return { lines: [batch(lines), select(...selection)] };
+  return { lines: [batch(lines), select(...selection)], what: "a mark" };
 }
 
 function unmarked(root, from, to, tags) {
@@ -33,7 +39,10 @@ function unmarked(root, from, to, tags) {
   return [...found.values()].map(([tag, attrs]) => ({ do: "unmark", from, to, tag, attrs }));
 }
 
-// The link that the selection stands in or on: its address, and how far it reaches.
+/**
+ * The link that the selection stands in or on: its address, and how far it reaches.
+ * @type {(root: TreeNode, selection: Selected) => { from: number, to: number, href: string }}
+ */
 export function linkAt(root, selection) {
   const [lo, hi] = ends(selection);
   const mark = marksAt(root, selection).find(([tag]) => tag === "a");
@@ -55,7 +64,10 @@ export function linkAt(root, selection) {
   return { from, to, href };
 }
 
-// Sets a link where the selection is, or takes it off where the address is empty.
+/**
+ * Sets a link where the selection is, or takes it off where the address is empty.
+ * @type {(root: TreeNode, selection: Selected, address: string) => Answer}
+ */
 export function linked(root, selection, address) {
   const { from, to } = linkAt(root, selection);
   const href = address && withScheme(address);
@@ -63,8 +75,9 @@ export function linked(root, selection, address) {
   if (from === to) {
     if (!href) return null;
     const size = scalars(address);
-    return { lines: [batch([{ do: "text", at: from, text: address }, { ...mark, from, to: from + size }]), select(from + size)] };
+    const written = batch([{ do: "text", at: from, text: address }, { ...mark, from, to: from + size }]);
+    return { lines: [written, select(from + size)], what: "a link" };
   }
   const lines = [...unmarked(root, from, to, ["a"]), ...(href ? [{ ...mark, from, to }] : [])];
-  return lines.length ? { lines: [batch(lines), select(...selection)] } : null;
+  return lines.length ? { lines: [batch(lines), select(...selection)], what: "a link" } : null;
 }

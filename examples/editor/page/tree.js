@@ -4,18 +4,45 @@ import { scalars } from "./scalars.js";
 
 export const CONTENT = new Set(["p", "h1", "h2", "h3", "h4", "h5", "h6", "pre"]);
 const LEAVES = new Set(["br", "img", "ref", "trans_inline", "trans_block", "alien_inline", "alien_block"]);
-const FLOW = new Set(["root", "section", "li", "dt", "dd", "blockquote", "div", "td", "th", "caption"]);
+const FLOW = new Set(["root", "section", "li", "dt", "dd", "blockquote", "div", "td", "th", "caption", "internal_item"]);
+const BLOCKS = new Set([...CONTENT, "ul", "ol", "dl", "blockquote", "div", "table", "trans_block", "alien_block"]);
+const PARTS = {
+  ul: ["li"], ol: ["li"], dl: ["dt", "dd"], table: ["caption", "thead", "tbody", "tfoot"], thead: ["tr"], tbody: ["tr"], tfoot: ["tr"],
+  tr: ["td", "th"],
+};
+
+/**
+ * Whether a node of one kind may stand in one of another.
+ * @type {(outer: string, inner: string) => boolean}
+ */
+export function mayHold(outer, inner) {
+  if (CONTENT.has(outer)) return inner === "text" || (LEAVES.has(inner) && !inner.endsWith("block"));
+  if (PARTS[outer]) return PARTS[outer].includes(inner) || (LEAVES.has(inner) && inner.endsWith("block"));
+  if (inner === "section") return ["root", "section", "div"].includes(outer);
+  return FLOW.has(outer) && BLOCKS.has(inner);
+}
+
 // The text of references stands here, at the end of the list. It is counted, and not shown.
 export const HIDDEN = "internal_list";
 
-// An element has `open` and `close`, the two items, and `kids`; a run has `text` and `marks`. The root has `kids` alone.
+/**
+ * An element has `open` and `close`, the two items, and `kids`; a run has `text` and `marks`. The root has `kids` alone.
+ * @type {() => TreeNode}
+ */
 export const newRoot = () => ({ kind: "root", kids: [], size: 0, parent: null });
+/** @type {(node: TreeNode) => boolean} */
 export const isText = (node) => node.kind === "text";
+/** @type {(node: TreeNode) => boolean} */
 export const isLeaf = (node) => LEAVES.has(node.kind);
+/** @type {(node: TreeNode) => boolean} */
 export const isContent = (node) => CONTENT.has(node.kind);
+/** @type {(node: TreeNode) => TreeNode[]} */
 export const shown = (node) => node.kids.filter((kid) => kid.kind !== HIDDEN);
 
-// The nodes of a list of items, or nothing where an opening or a closing among them has no partner.
+/**
+ * The nodes of a list of items, or nothing where an opening or a closing among them has no partner.
+ * @type {(items: Item[]) => TreeNode[] | null}
+ */
 export function parse(items) {
   const top = { kids: [], size: 0 };
   let inner = top;
@@ -40,7 +67,10 @@ export function parse(items) {
   return inner === top ? top.kids : null;
 }
 
-// The items of nodes, as `data` shows them.
+/**
+ * The items of nodes, as `data` shows them.
+ * @type {(nodes: TreeNode[], out?: Item[]) => Item[]}
+ */
 export function itemsOf(nodes, out = []) {
   for (const node of nodes) {
     if (isText(node)) {
@@ -54,10 +84,14 @@ export function itemsOf(nodes, out = []) {
   return out;
 }
 
-// Puts nodes in the place of the children from `from` to `to`.
+/**
+ * Puts nodes in the place of the children from `from` to `to`.
+ * @type {(parent: TreeNode, from: number, to: number, nodes: TreeNode[]) => void}
+ */
 export function replaceKids(parent, from, to, nodes) {
   let grown = 0;
-  for (const kid of parent.kids.splice(from, to - from, ...nodes)) grown -= kid.size;
+  for (const kid of parent.kids.slice(from, to)) grown -= kid.size;
+  parent.kids = [...parent.kids.slice(0, from), ...nodes, ...parent.kids.slice(to)];
   for (const node of nodes) {
     node.parent = parent;
     grown += node.size;
@@ -67,6 +101,7 @@ export function replaceKids(parent, from, to, nodes) {
 
 const bracket = (node) => (node.kind === "root" ? 0 : 1);
 
+/** @type {(node: TreeNode) => number} */
 export function startOf(node) {
   if (!node.parent) return 0;
   let at = innerStart(node.parent);
@@ -77,11 +112,17 @@ export function startOf(node) {
   throw new Error("a node that isn't in the tree");
 }
 
+/** @type {(node: TreeNode) => number} */
 export const endOf = (node) => startOf(node) + node.size;
+/** @type {(node: TreeNode) => number} */
 export const innerStart = (node) => startOf(node) + bracket(node);
+/** @type {(node: TreeNode) => number} */
 export const innerEnd = (node) => endOf(node) - bracket(node);
 
-// The innermost element whose inside holds the offset; a leaf counts as a whole.
+/**
+ * The innermost element whose inside holds the offset; a leaf counts as a whole.
+ * @type {(root: TreeNode, at: number) => TreeNode}
+ */
 export function innermost(root, at) {
   let node = root;
   for (let rest = at; ; ) {
@@ -100,18 +141,23 @@ export function innermost(root, at) {
   }
 }
 
-// The node, or the innermost one around it, for which the test holds.
+/**
+ * The node, or the innermost one around it, for which the test holds.
+ * @type {(node: TreeNode | null, test: (node: TreeNode) => boolean) => TreeNode | null}
+ */
 export function around(node, test) {
   for (let up = node; up; up = up.parent) if (test(up)) return up;
   return null;
 }
 
+/** @type {(node: TreeNode) => TreeNode[]} */
 export function ancestors(node) {
   const out = [];
   for (let up = node; up; up = up.parent) out.unshift(up);
   return out;
 }
 
+/** @type {(a: TreeNode, b: TreeNode) => TreeNode} */
 export function commonOf(a, b) {
   const of = ancestors(a);
   return ancestors(b).findLast((node, k) => of[k] === node);
@@ -120,7 +166,10 @@ export function commonOf(a, b) {
 // Where a caret may stand: in a content branch, or in an empty element to which the program gives a paragraph when something is typed.
 const takesCaret = (node) => isContent(node) || (FLOW.has(node.kind) && shown(node).length === 0);
 
-// Where a caret may stand, that is nearest to the offset: on the left first, unless `ahead` says otherwise.
+/**
+ * Where a caret may stand, that is nearest to the offset: on the left first, unless `ahead` says otherwise.
+ * @type {(root: TreeNode, at: number, ahead?: boolean) => number}
+ */
 export function caretPlace(root, at, ahead = false) {
   const here = innermost(root, at);
   if (takesCaret(here)) return at;
@@ -141,7 +190,10 @@ export function caretPlace(root, at, ahead = false) {
   return (ahead ? after ?? before : before ?? after) ?? 0;
 }
 
-// The content branches that the range touches, in order.
+/**
+ * The content branches that the range touches, in order.
+ * @type {(root: TreeNode, from: number, to: number) => TreeNode[]}
+ */
 export function branchesIn(root, from, to) {
   const out = [];
   const look = (node, start) => {
@@ -159,7 +211,10 @@ export function branchesIn(root, from, to) {
   return out;
 }
 
-// The children of a branch that the range touches, each with the part of it that is in the range.
+/**
+ * The children of a branch that the range touches, each with the part of it that is in the range.
+ * @type {(branch: TreeNode, from: number, to: number) => { kid: TreeNode, from: number, to: number }[]}
+ */
 export function runsIn(branch, from, to) {
   const out = [];
   let at = innerStart(branch);
@@ -170,7 +225,10 @@ export function runsIn(branch, from, to) {
   return out;
 }
 
-// What stands just before the offset in its branch, or nothing.
+/**
+ * What stands just before the offset in its branch, or nothing.
+ * @type {(branch: TreeNode, at: number) => TreeNode | null}
+ */
 export function leftOf(branch, at) {
   let start = innerStart(branch);
   let left = null;
@@ -182,5 +240,8 @@ export function leftOf(branch, at) {
   return left;
 }
 
-// A node's marks, be it a run or a leaf.
+/**
+ * A node's marks, be it a run or a leaf.
+ * @type {(node: TreeNode) => Mark[]}
+ */
 export const marksOf = (node) => (isText(node) ? node.marks : node.open.marks) ?? [];

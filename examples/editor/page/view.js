@@ -1,88 +1,135 @@
 // The tree on the screen. DOM nodes are built from items, one by one; no HTML of the page is ever parsed into the document. What the
-// browser shows is never read back, but for where its selection stands.
-import { CONTENT, HIDDEN, caretPlace, endOf, innerStart, innermost, isContent, isLeaf, isText, marksOf, replaceKids, shown,
-  startOf } from "./tree.js";
-import { isPicture, isSafe } from "./addresses.js";
-import { scalars, units } from "./scalars.js";
-
-// Attributes of pages that are shown. Others can style or run things, and are kept by the program alone.
-const SHOWN = new Set(["alt", "colspan", "dir", "height", "lang", "reversed", "rowspan", "start", "title", "width"]);
-
-function element(tag, attrs = []) {
-  const dom = document.createElement(tag);
-  for (const [name, value] of attrs) {
-    if (SHOWN.has(name) || (name === "href" && isSafe(value)) || (name === "src" && isPicture(value))) dom.setAttribute(name, value);
-  }
-  return dom;
-}
-
-// What a leaf that only the program can read says of itself.
-function label({ kind, open }, number) {
-  if (kind === "ref") return `[${number}]`;
-  const words = new DOMParser().parseFromString(open.raw ?? "", "text/html").body.textContent.trim().replace(/\s+/g, " ");
-  return words.slice(0, 60) || open.raw?.slice(0, 40) || kind;
-}
+// browser shows is never read back, but for where its selection stands and for what an input method wrote.
+import { Later } from "./later.js";
+import { box, element } from "./leaves.js";
+import { hasReference, labels } from "./references.js";
+import { HIDDEN, ancestors, isContent, isLeaf, isText, marksOf, replaceKids, shown } from "./tree.js";
 
 export class View {
   #root;
-  #host;
-  #nodes = new WeakMap(); // a DOM node, and the node of the tree that it shows
-  #doms = new WeakMap(); // and the other way
+  #pairs;
+  #later;
+  #labels = new WeakMap(); // of references
 
-  constructor(host, root) {
-    this.#host = host;
+  /** Draws the root's children into `host`; `drawn` is told when more of them was drawn as it came near. */
+  constructor(host, root, pairs, drawn = () => {}) {
     this.#root = root;
-    this.#bind(root, host);
+    this.#pairs = pairs;
+    this.#later = new Later((node) => this.#build(node), drawn);
+    pairs.bind(root, host);
   }
 
-  // Puts fresh nodes in the place of some siblings, in the tree and on the screen. What is equal at both ends stays, DOM and all; of one
-  // element whose opening and closing stayed, only what is in it is looked at.
+  /**
+   * Puts fresh nodes in the place of some siblings, in the tree and on the screen. What is equal at both ends stays, DOM and all; of one
+   * element whose opening and closing stayed, only what is in it is looked at.
+   */
   update(parent, from, to, fresh) {
+    const old = parent.kids.slice(from, to);
+    const numbered = hasReference(old) || hasReference(fresh);
+    this.#replace(parent, from, to, fresh);
+    if (numbered) this.#number();
+  }
+
+  #replace(parent, from, to, fresh) {
     const kids = parent.kids;
     let end = fresh.length, begin = 0;
     while (from < to && begin < end && equal(kids[from], fresh[begin])) from++, begin++;
     while (from < to && begin < end && equal(kids[to - 1], fresh[end - 1])) to--, end--;
     if (from === to && begin === end) return;
-    const [old, next] = [kids[from], fresh[begin]];
-    if (isContent(parent)) {
-      replaceKids(parent, from, to, fresh.slice(begin, end));
-      this.#fill(parent, this.#doms.get(parent));
-    } else if (to - from === 1 && end - begin === 1 && alike(old, next) && old.kind !== HIDDEN) {
-      this.update(old, 0, old.kids.length, next.kids);
-    } else {
-      const host = this.#doms.get(parent);
-      for (const kid of kids.slice(from, to)) this.#doms.get(kid)?.remove();
-      const after = kids.slice(to).find((kid) => this.#doms.has(kid));
-      const nodes = fresh.slice(begin, end);
+    const nodes = fresh.slice(begin, end);
+    const [old, next] = [kids[from], nodes[0]];
+    if (!this.#pairs.domOf(parent)) {
       replaceKids(parent, from, to, nodes);
-      host.querySelector(":scope > br.filler")?.remove();
-      const made = nodes.filter((node) => node.kind !== HIDDEN).map((node) => this.#build(node));
-      host.insertBefore(fragment(made), after ? this.#doms.get(after) : null);
-      if (shown(parent).length === 0) host.append(filler());
+    } else if (isContent(parent)) {
+      replaceKids(parent, from, to, nodes);
+      this.redraw(parent);
+    } else if (to - from === 1 && nodes.length === 1 && alike(old, next)) {
+      this.#replace(old, 0, old.kids.length, next.kids);
+    } else {
+      this.#exchange(parent, from, to, nodes);
     }
   }
 
-  // Builds a node's content anew: after an input method wrote into the document by itself.
-  redraw(node) {
-    this.#fill(node, this.#doms.get(node));
+  #exchange(parent, from, to, nodes) {
+    const host = this.#pairs.domOf(parent);
+    this.#open(parent, from, to);
+    for (const kid of parent.kids.slice(from, to)) this.#take(kid);
+    const after = parent.kids.slice(to).find((kid) => kid.kind !== HIDDEN);
+    replaceKids(parent, from, to, nodes);
+    host.querySelector(":scope > br.filler")?.remove();
+    const made = this.#later.build(nodes.filter((node) => node.kind !== HIDDEN));
+    host.insertBefore(fragment(made), after ? this.#place(after) : null);
+    if (shown(parent).length === 0) host.append(filler());
   }
 
-  #bind(node, dom) {
-    this.#nodes.set(dom, node);
-    this.#doms.set(node, dom);
-    return dom;
+  // A shell that stands for some of the range and for more is drawn first.
+  #open(parent, from, to) {
+    const ends = [parent.kids[from - 1], parent.kids[from], parent.kids[to - 1], parent.kids[to]];
+    for (const shell of new Set(ends.map((kid) => kid && this.#later.shellOf(kid)).filter(Boolean))) {
+      const nodes = this.#later.nodesOf(shell);
+      const first = parent.kids.indexOf(nodes[0]);
+      const within = first >= from && first + nodes.length <= to, beside = first >= to || first + nodes.length <= from;
+      if (!within && !beside) this.#later.draw(shell);
+    }
+  }
+
+  #take(kid) {
+    const shell = this.#later.shellOf(kid);
+    if (shell) this.#later.forget(shell);
+    this.#place(kid, shell)?.remove();
+  }
+
+  #place(kid, shell = this.#later.shellOf(kid)) {
+    return shell ?? this.#pairs.domOf(kid);
+  }
+
+  /** Draws a node that may stand where nothing was drawn yet. */
+  reach(node) {
+    for (const up of ancestors(node)) {
+      const shell = this.#later.shellOf(up);
+      if (shell) this.#later.draw(shell);
+    }
+  }
+
+  domOf(node) {
+    return this.#pairs.domOf(node);
+  }
+
+  /** The nodes for which a shell stands, where the DOM node is one. */
+  standsFor(dom) {
+    return this.#later.nodesOf(dom);
+  }
+
+  /** Draws all that wasn't drawn yet. */
+  drawAll() {
+    const host = this.#pairs.domOf(this.#root);
+    for (let shells; (shells = host.querySelectorAll(".later")).length; ) shells.forEach((shell) => this.#later.draw(shell));
+  }
+
+  /** Builds a drawn node's content anew, as after an input method wrote into the document by itself. */
+  redraw(node) {
+    this.#fill(node, this.#pairs.domOf(node));
+  }
+
+  #number() {
+    for (const [node, label] of labels(this.#root)) {
+      if (this.#labels.get(node) === label) continue;
+      this.#labels.set(node, label);
+      const dom = this.#pairs.domOf(node);
+      if (dom) dom.textContent = label;
+    }
   }
 
   #build(node) {
     if (isLeaf(node)) return this.#leaf(node);
-    const dom = this.#bind(node, element(node.kind, node.open.attrs));
+    const dom = this.#pairs.bind(node, element(node.kind, node.open.attrs));
     this.#fill(node, dom);
     return dom;
   }
 
   #fill(node, dom) {
-    if (CONTENT.has(node.kind)) dom.replaceChildren(this.#line(node));
-    else dom.replaceChildren(fragment(shown(node).map((kid) => this.#build(kid))));
+    if (isContent(node)) dom.replaceChildren(this.#line(node));
+    else dom.replaceChildren(...this.#later.build(shown(node)));
     const last = shown(node).at(-1);
     // an empty line, or one after a break, has no height without this
     if (!last || last.kind === "br" || (isText(last) && last.text.endsWith("\n"))) dom.append(filler());
@@ -110,89 +157,13 @@ export class View {
   // Newlines of a page's source are white text like any other, but in `pre`.
   #text(branch, run) {
     const text = branch.kind === "pre" ? run.text : run.text.replace(/\n/g, " ");
-    return this.#bind(run, document.createTextNode(text));
+    return this.#pairs.bind(run, document.createTextNode(text));
   }
 
   #leaf(node) {
-    if (node.kind === "br" || node.kind === "img") return this.#bind(node, element(node.kind, node.open.attrs));
-    const dom = this.#bind(node, document.createElement(node.kind.endsWith("block") ? "div" : "span"));
-    dom.className = `leaf ${node.kind}`;
-    dom.contentEditable = "false";
-    dom.textContent = label(node, node.open.ref?.[1].slice(2));
-    return dom;
-  }
-
-  // The offset of a place in the document, moved to the nearest one where a caret may stand.
-  offset(dom, k) {
-    const leaf = dom.parentElement?.closest(".leaf") ?? (dom.nodeType === 1 ? dom.closest(".leaf") : null);
-    const at = leaf ? startOf(this.#nodes.get(leaf)) : this.#place(dom, k);
-    return caretPlace(this.#root, at, k === 0);
-  }
-
-  #place(dom, k) {
-    if (dom.nodeType === 3) {
-      const run = this.#nodes.get(dom);
-      return run ? startOf(run) + scalars(dom.data, k) : this.#before(dom);
-    }
-    if (dom.childNodes[k]) return this.#before(dom.childNodes[k]);
-    return dom.lastChild ? this.#after(dom.lastChild) : innerStart(this.#nodes.get(dom));
-  }
-
-  // A DOM node that shows nothing of the tree is a mark, or a filler at the end of its line.
-  #before(dom) {
-    const node = this.#nodes.get(dom);
-    if (node) return startOf(node);
-    if (dom.firstChild) return this.#before(dom.firstChild);
-    return dom.previousSibling ? this.#after(dom.previousSibling) : innerStart(this.#nodes.get(dom.parentNode));
-  }
-
-  #after(dom) {
-    const node = this.#nodes.get(dom);
-    if (node) return endOf(node);
-    return dom.lastChild ? this.#after(dom.lastChild) : this.#before(dom);
-  }
-
-  // The place in the document of the caret at an offset: at a border the end of what is on the left, whose marks typing takes.
-  point(offset) {
-    const at = caretPlace(this.#root, offset);
-    const node = innermost(this.#root, at);
-    const host = this.#doms.get(node);
-    if (!isContent(node)) return [host, 0];
-    let rest = at - innerStart(node);
-    for (const kid of node.kids) {
-      const dom = this.#doms.get(kid);
-      if (isText(kid) && rest <= kid.size) return [dom, units(kid.text, rest)];
-      if (rest === 0) return [dom.parentNode, [...dom.parentNode.childNodes].indexOf(dom)];
-      rest -= kid.size;
-    }
-    const last = this.#doms.get(node.kids.at(-1) ?? null);
-    return last ? [last.parentNode, [...last.parentNode.childNodes].indexOf(last) + 1] : [host, 0];
-  }
-
-  // Where a caret at the offset is on the screen; an empty line has no text that could say so.
-  box(at) {
-    const range = this.range(at, at);
-    return range.getClientRects()[0] ?? range.startContainer.getBoundingClientRect();
-  }
-
-  range(from, to) {
-    const range = document.createRange();
-    range.setStart(...this.point(from));
-    range.setEnd(...this.point(to));
-    return range;
-  }
-
-  // The browser's selection as offsets. Where the editor hasn't the focus nobody moves it, nor may it take the focus from elsewhere.
-  selection() {
-    if (document.activeElement !== this.#host) return null;
-    const { anchorNode, anchorOffset, focusNode, focusOffset } = document.getSelection();
-    if (!anchorNode || !this.#host.contains(anchorNode) || !this.#host.contains(focusNode)) return null;
-    return [this.offset(anchorNode, anchorOffset), this.offset(focusNode, focusOffset)];
-  }
-
-  select(anchor, focus) {
-    if (document.activeElement !== this.#host) return;
-    document.getSelection().setBaseAndExtent(...this.point(anchor), ...this.point(focus));
+    const dom = node.kind === "br" || node.kind === "img" ? element(node.kind, node.open.attrs) : box(node);
+    if (node.kind === "ref") dom.textContent = this.#labels.get(node) ?? "";
+    return this.#pairs.bind(node, dom);
   }
 }
 
@@ -204,15 +175,15 @@ function filler() {
 
 function fragment(doms) {
   const all = document.createDocumentFragment();
-  all.append(...doms);
+  for (const dom of doms) all.append(dom);
   return all;
 }
 
-const alike = (a, b) => a.kind === b.kind && !isText(a) && !isLeaf(a) && JSON.stringify([a.open, a.close]) === JSON.stringify([b.open, b.close]);
+const alike = (a, b) => a.kind === b.kind && a.kind !== HIDDEN && !isText(a) && !isLeaf(a) && sameBrackets(a, b);
+const sameBrackets = (a, b) => JSON.stringify([a.open, a.close]) === JSON.stringify([b.open, b.close]);
 
 function equal(a, b) {
   if (a.kind !== b.kind || a.size !== b.size) return false;
   if (isText(a)) return a.text === b.text && JSON.stringify(a.marks) === JSON.stringify(b.marks);
-  return JSON.stringify([a.open, a.close]) === JSON.stringify([b.open, b.close]) && a.kids.length === b.kids.length &&
-    a.kids.every((kid, k) => equal(kid, b.kids[k]));
+  return sameBrackets(a, b) && a.kids.length === b.kids.length && a.kids.every((kid, k) => equal(kid, b.kids[k]));
 }

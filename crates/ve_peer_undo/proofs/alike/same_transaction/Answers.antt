@@ -1,4 +1,4 @@
-use Rattle.std.proofs.Common.{◌≡◌, ◌<◌, length, sym, ap, ◌∙◌, subst, arith}
+use Rattle.std.proofs.Common.{◌<◌, length, sym, ap, ◌∙◌, subst, arith}
 use Rattle.std.proofs.lemmas.List.Elements.{All-get_or}
 use Rattle.ve_tx.specs.Operation.{Retain}
 use Rattle.ve_peer_undo.specs.Alike.{OpIsCited, seen_op}
@@ -27,12 +27,11 @@ returns-then-not-same_op c =
     let below = c.loop-k-test.true in
     let other_below : c.loop-k.k < length c.ops-other_ops.result.now = omega (arith, below, c.if-ops-other_ops.false) in
     let here = op_here c.args.one.now c.ops-ops.result.now c.loop-k.k c.index-ops-k.result c.kept.result (Retain 0) is below c.index-ops-k.is c.kept.ensures in
-    let there = op_here c.args.other.now c.ops-other_ops.result.now c.loop-k.k c.index-other_ops-k.result c.kept-in-loop-k.result (Retain 0) other_is other_below c.index-other_ops-k.is c.kept-in-loop-k.ensures in
-    (
+    let there = op_here c.args.other.now c.ops-other_ops.result.now c.loop-k.k c.index-other_ops-k.result c.kept-in-loop-k.result (Retain 0) other_is other_below c.index-other_ops-k.is c.kept-in-loop-k.ensures in (
       λ h. absurd (cc),
       λ h. absurd (they_differ (seen_op c.args.values.now) (seen_op c.args.others.now) c.args.one.now c.args.other.now c.loop-k.k (Retain 0) (Retain 0)
-      (within c.args.one.now c.ops-ops.result.now c.loop-k.k is below) (within c.args.other.now c.ops-other_ops.result.now c.loop-k.k other_is other_below)
-      (λ e. let told = c.same_op.ensures.1 (ap (seen_op c.args.values.now) here ∙ (e ∙ ap (seen_op c.args.others.now) (sym there))) in let no = sym told ∙ c.if-not-same_op.true in cc) h),
+          (within c.args.one.now c.ops-ops.result.now c.loop-k.k is below) (within c.args.other.now c.ops-other_ops.result.now c.loop-k.k other_is other_below)
+          (λ e. let told = c.same_op.ensures.1 (ap (seen_op c.args.values.now) here ∙ (e ∙ ap (seen_op c.args.others.now) (sym there))) in let no = sym told ∙ c.if-not-same_op.true in cc) h),
     )
 
 pub loop-k-preserved : goal.loop-k-preserved

@@ -11,7 +11,7 @@ returns-clause-passed c =
     let e = c.args.entry.now in
     let same = c.in_ok-take_back.ensures.same c.if-branch.false in
     let none = subst (IsTakenOut e.entry.takes_back (parcel_by_value e) (counted ns ps) (counted c.take_back.new.numbers.items c.take_back.new.parcels)) c.if-branch.false
-        c.in_ok-take_back.ensures.taken in
+    c.in_ok-take_back.ensures.taken in
     let numbers = c.in_ok-push.ensures.items ∙ ap (λ l. l ++ c.args.number ∷ []) same.0 in
     let parcels = c.in_ok-push-2.ensures.ok ∙ (ap (λ l. l ++ c.in_ok-copy.field-0 ∷ []) same.1 ∙ ap (λ p. ps ++ p ∷ []) c.in_ok-copy.ensures) in
     ap (λ l. counted l c.push-2.new.self) numbers ∙ (ap (counted (ns ++ c.args.number ∷ [])) parcels ∙ counts_itself ns ps c.args.number e c.requires.kept none.0)

@@ -1,4 +1,4 @@
-use Rattle.std.proofs.Common.{◌++◌, take, get_or, Some, refl, sym, ap, ◌∙◌, subst}
+use Rattle.std.proofs.Common.{◌++◌, take, get_or, refl, sym, ap, ◌∙◌, subst}
 use Rattle.ve_tx.specs.ByValue.{parcel_by_value}
 use Rattle.ve_peer_undo.specs.Counted.{IsLeft, position_of}
 use Rattle.ve_peer_undo.proofs.PositionLemmas.{without_none}
@@ -8,7 +8,7 @@ use Rattle.ve_peer_undo.proofs.live.take_out.Goals as goal
 pub returns-in_default-clause-taken : goal.returns-in_default-clause-taken
 returns-in_default-clause-taken c = (
   without_none c.args.number (parcel_by_value c.args.back.now) c.args.numbers.now.items c.args.parcels.now c.requires.kept.many
-  (ap (position_of c.args.number) (sym c.as_slice.ensures.value) ∙ sym c.in_default.ensures.first),
+      (ap (position_of c.args.number) (sym c.as_slice.ensures.value) ∙ sym c.in_default.ensures.first),
   refl,
 )
 
@@ -30,10 +30,10 @@ left_without-requires-clause-run c =
 pub returns-in_default-2-clause-taken : goal.returns-in_default-2-clause-taken
 returns-in_default-2-clause-taken c = (
   not_out c.args.numbers.now.items c.args.parcels.now c.requires.kept c.args.number c.in-Some.at
-    (ap (position_of c.args.number) (sym c.as_slice.ensures.value) ∙ sym c.in-Some.ensures.first) c.index-all-at.result
-    (c.index-all-at.is ∙ ap (λ ps. get_or ps c.in-Some.at c.index-all-at.result) c.as_slice-all.ensures) c.in_ok-after.after
-    (behind c.as_slice-all.result.now c.args.parcels.now c.in_ok-after.after c.in-Some.at c.as_slice-all.ensures c.in_ok-after.ensures)
-    c.args.back.now c.in_ok-left.field-0 c.in_default-2.is c.in_ok-left.ensures,
+      (ap (position_of c.args.number) (sym c.as_slice.ensures.value) ∙ sym c.in-Some.ensures.first) c.index-all-at.result
+      (c.index-all-at.is ∙ ap (λ ps. get_or ps c.in-Some.at c.index-all-at.result) c.as_slice-all.ensures) c.in_ok-after.after
+      (behind c.as_slice-all.result.now c.args.parcels.now c.in_ok-after.after c.in-Some.at c.as_slice-all.ensures c.in_ok-after.ensures)
+      c.args.back.now c.in_ok-left.field-0 c.in_default-2.is c.in_ok-left.ensures,
   refl,
 )
 

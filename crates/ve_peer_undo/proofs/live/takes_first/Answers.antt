@@ -1,4 +1,4 @@
-use Rattle.std.proofs.Common.{List, sym, subst}
+use Rattle.std.proofs.Common.{List, subst}
 use Rattle.model_change.specs.Transaction.{Transaction}
 use Rattle.model_change.specs.Replay.{reversal}
 use Rattle.ve_tx.specs.ByValue.{parcel_by_value}

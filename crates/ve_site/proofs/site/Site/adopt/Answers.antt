@@ -2,7 +2,7 @@ use Rattle.std.proofs.Common.{◌≡◌, ◌≤◌, ◌+◌, [], ◌∷◌, ◌+
 use Rattle.model_site.specs.Untold.{passed}
 use Rattle.ve_tx.specs.Operation.{Operation, by_value}
 use Rattle.model_change.specs.Replay.{AllRun}
-use Rattle.model_site.specs.Site.{Site, with_entry}
+use Rattle.model_site.specs.Site.{Site, with_entry_against}
 use Rattle.model_site_law.proofs.ReplayLemmas.{AllMayRun_from_runs}
 use Rattle.ve_tx.specs.ByValue.{parcel_by_value}
 use Rattle.ve_tx.proofs.ChangeLemmas.{ok-holds}
@@ -23,6 +23,7 @@ pub invariant_of-self-2 : goal.invariant_of-self-2
 invariant_of-self-2 g c =
     let s = c.self.inside in
     let ts = parcel_by_value c.args.back.now in
+    let taken = c.args.back.now.entry.takes_back in
     let room = c.reserve.new.self in
     let now = c.push.new.self in
     let e = c.in_ok-entry.entry in
@@ -34,12 +35,13 @@ invariant_of-self-2 g c =
     let noted : c.note.new.self ≡ passed (map (by_value c.admit.new.self.store) e.txs) s.untold =
     c.note.ensures c.admit.new.self.store ∙ ap (λ (txs : List (List Operation)). passed (map (by_value c.admit.new.self.store) txs) s.untold) c.as_slice.ensures in
     let run = subst (λ (x : Site). AllRun ts x.replica.items) (ap (λ (v : Numbered). v.site) (sym c.self.view_is)) c.requires.run in
-    with_entry_is (replica_of s.editor) s.untold s.seen s.sent.items room s.shared s.in_flight is ts (replica_of c.admit.new.self) e now c.note.new.self f.page f.entry f.cites done noted undone (AllMayRun_from_runs ts s.editor.items run)
+    with_entry_is (replica_of s.editor) s.untold s.seen s.sent.items room s.shared s.in_flight is taken ts (replica_of c.admit.new.self) e now c.note.new.self f.page f.entry f.cites done noted undone (AllMayRun_from_runs ts s.editor.items run)
 
 pub returns-clause-site : goal.returns-clause-site
 returns-clause-site g c =
     let s = c.self.inside in
     let ts = parcel_by_value c.args.back.now in
+    let taken = c.args.back.now.entry.takes_back in
     let room = c.reserve.new.self in
     let now = c.push.new.self in
     let e = c.in_ok-entry.entry in
@@ -52,8 +54,8 @@ returns-clause-site g c =
     c.note.ensures c.admit.new.self.store ∙ ap (λ (txs : List (List Operation)). passed (map (by_value c.admit.new.self.store) txs) s.untold) c.as_slice.ensures in
     let same = roomy_same (replica_of s.editor) s.untold s.seen s.sent.items s.history s.shared s.in_flight c.self.invariant room c.reserve.ensures.done c.reserve.ensures.undone in
     ap (λ (x : Site). record { number = s.number; site = x })
-    (with_entry_same (replica_of s.editor) s.untold s.seen s.sent.items room s.shared s.in_flight is ts (replica_of c.admit.new.self) e now c.note.new.self f.page f.entry f.cites done noted undone ∙ ap (with_entry ts) same)
-    ∙ ap (λ (v : Numbered). with_site (with_entry ts v.site) v) c.self.view_is
+    (with_entry_same (replica_of s.editor) s.untold s.seen s.sent.items room s.shared s.in_flight is taken ts (replica_of c.admit.new.self) e now c.note.new.self f.page f.entry f.cites done noted undone ∙ ap (with_entry_against taken ts) same)
+    ∙ ap (λ (v : Numbered). with_site (with_entry_against taken ts v.site) v) c.self.view_is
 
 pub returns-in_err-entry-clause-steps : goal.returns-in_err-entry-clause-steps
 returns-in_err-entry-clause-steps g c =

@@ -1,4 +1,4 @@
-use Rattle.std.proofs.Common.{◌≡◌, [], ◌∷◌, ◌++◌, true, is_ok, sym, ap, ◌∙◌, subst, List, map}
+use Rattle.std.proofs.Common.{◌≡◌, None, [], ◌∷◌, ◌++◌, true, is_ok, sym, ap, ◌∙◌, subst, List, map}
 use Rattle.model_site.specs.Site.{with_entry}
 use Rattle.model_site.specs.Untold.{passed}
 use Rattle.ve_tx.specs.Operation.{Operation, by_value}
@@ -30,7 +30,7 @@ invariant_of-self-2 g c =
     let noted : c.note.new.self ≡ passed (map (by_value new.store) e.txs) s.untold =
     c.note.ensures new.store ∙ ap (λ (txs : List (List Operation)). passed (map (by_value new.store) txs) s.untold) c.as_slice.ensures in
     let made = c.in_ok-entry.ensures.made in
-    with_entry_is (replica_of s.editor) s.untold s.seen s.sent.items room s.shared s.in_flight is made.ts new e now c.note.new.self made.page made.entry made.cites done noted undone made.may
+    with_entry_is (replica_of s.editor) s.untold s.seen s.sent.items room s.shared s.in_flight is None made.ts new e now c.note.new.self made.page made.entry made.cites done noted undone made.may
 
 pub returns-clause-made : goal.returns-clause-made
 returns-clause-made g c =
@@ -52,5 +52,5 @@ returns-clause-made g c =
       ts = made.ts;
       asked = made.asked;
       may = made.may;
-      site = with_entry_same (replica_of s.editor) s.untold s.seen s.sent.items room s.shared s.in_flight is made.ts new e now c.note.new.self made.page made.entry made.cites done noted undone ∙ ap (with_entry made.ts) same;
+      site = with_entry_same (replica_of s.editor) s.untold s.seen s.sent.items room s.shared s.in_flight is None made.ts new e now c.note.new.self made.page made.entry made.cites done noted undone ∙ ap (with_entry made.ts) same;
     })

@@ -1,5 +1,5 @@
 use Rattle.std.proofs.Common.{◌≡◌, ◌++◌, All, length, map, Some, Ok, IsOk, if◌then◌else◌, sym, ap, ◌∙◌, subst}
-use Rattle.model_site.specs.Entries.{parcels}
+use Rattle.model_site.specs.Entries.{hints, parcels}
 use Rattle.model_site.specs.Site.{send}
 use Rattle.ve_editor.specs.Edited.{entry_by_value, EntryCites}
 use Rattle.ve_editor.specs.Page.{replica_of}
@@ -46,11 +46,13 @@ returns-clause-sent c =
     ∙ (ap (λ es. es ++ c.into_vec-moved.result.items) c.reserve.ensures.items ∙ ap (λ es. s.sent.items ++ es) (c.into_vec-moved.ensures ∙ c.replace_done.ensures.handed))) in
     let count = length c.done-unsent.result.now in
     let may = may_send (send c.args.self.now.site) c.send_refusal.result c.send_refusal.ensures c.in_default.not-Some in
-    let values : c.in-Ok.parcels ≡ parcels (map (entry_by_value s.editor.store) s.history.done) =
-    c.in-Ok.ensures
-    ∙ (ap (λ store. parcels (map (entry_by_value store) c.done-unsent.result.now)) c.doc.ensures.store ∙ ap (λ es. parcels (map (entry_by_value s.editor.store) es)) c.done-unsent.ensures) in
+    let lent = ap (λ store. map (entry_by_value store) c.done-unsent.result.now) c.doc.ensures.store ∙ ap (map (entry_by_value s.editor.store)) c.done-unsent.ensures in
+    let unsent = map (entry_by_value s.editor.store) s.history.done in
+    let values : c.in-Ok.parcels.entries ≡ parcels unsent = c.in-Ok.ensures.entries ∙ ap parcels lent in
+    let taken : c.in-Ok.parcels.hints ≡ hints unsent = c.in-Ok.ensures.hints ∙ ap hints lent in
     let next = site_of (replica_of s.editor) s.untold s.seen c.append.new.self.items c.replace_done.new.self c.in-Some-checked_add.shared (Some count) in
     ap send (ap (λ (v : Numbered). v.site) (sym c.self.view_is))
     ∙ (send_is (replica_of s.editor) s.untold s.seen s.sent.items s.history s.shared s.in_flight c.self.invariant c.replace_done.new.self c.append.new.self.items count c.in-Some-checked_add.shared
     all (c.replace_done.ensures.done ∙ c.new-none.ensures) c.replace_done.ensures.undone (ap length c.done-unsent.ensures) c.in-Some-checked_add.ensures.1 (subst (λ (v : Numbered). IsOk (send v.site)) (sym c.self.view_is) may)
-    ∙ ap (λ es. Ok (next, record { base = s.seen; entries = es })) (sym values))
+    ∙ (ap (λ es. Ok (next, record { base = s.seen; entries = es; hints = hints unsent })) (sym values)
+    ∙ ap (λ hs. Ok (next, record { base = s.seen; entries = c.in-Ok.parcels.entries; hints = hs })) (sym taken)))

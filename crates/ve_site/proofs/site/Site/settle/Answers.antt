@@ -1,4 +1,4 @@
-use Rattle.std.proofs.Common.{◌≡◌, [], ◌∷◌, ◌++◌, true, is_ok, sym, ap, ◌∙◌, subst, List, map}
+use Rattle.std.proofs.Common.{◌≡◌, None, [], ◌∷◌, ◌++◌, true, is_ok, sym, ap, ◌∙◌, subst, List, map}
 use Rattle.model_site.specs.Untold.{passed}
 use Rattle.ve_tx.specs.Operation.{Operation, by_value}
 use Rattle.model_site.specs.Entries.{entry_of}
@@ -31,7 +31,7 @@ invariant_of-self-2 c =
     let may = subst (λ (x : Site). AllMayRun h.ts x.replica.items) site h.may in
     let page = subst (λ (x : Site). replica_of c.args.editor ≡ all_performed h.ts x.replica) site h.page in
     let entry = subst (λ (x : Site). entry_by_value c.args.editor.store e ≡ entry_of h.ts x.replica) site h.entry in
-    with_entry_is (replica_of s.editor) s.untold s.seen s.sent.items room s.shared s.in_flight is h.ts (replica_of c.args.editor) e now c.note.new.self page entry h.cites done noted undone may
+    with_entry_is (replica_of s.editor) s.untold s.seen s.sent.items room s.shared s.in_flight is None h.ts (replica_of c.args.editor) e now c.note.new.self page entry h.cites done noted undone may
 
 pub returns-clause-site : goal.returns-clause-site
 returns-clause-site c =
@@ -52,5 +52,5 @@ returns-clause-site c =
     let entry = subst (λ (x : Site). entry_by_value c.args.editor.store e ≡ entry_of h.ts x.replica) site h.entry in
     let same = roomy_same (replica_of s.editor) s.untold s.seen s.sent.items s.history s.shared s.in_flight c.self.invariant room c.reserve.ensures.done c.reserve.ensures.undone in
     ap (λ (x : Site). record { number = s.number; site = x })
-    (with_entry_same (replica_of s.editor) s.untold s.seen s.sent.items room s.shared s.in_flight is h.ts (replica_of c.args.editor) e now c.note.new.self page entry h.cites done noted undone ∙ ap (with_entry h.ts) same ∙ sym (settled_is (replica_of c.args.editor) e (site_of (replica_of s.editor) s.untold s.seen s.sent.items s.history s.shared s.in_flight) (record { ts = h.ts; may = may; page = page; entry = entry; cites = h.cites })))
+    (with_entry_same (replica_of s.editor) s.untold s.seen s.sent.items room s.shared s.in_flight is None h.ts (replica_of c.args.editor) e now c.note.new.self page entry h.cites done noted undone ∙ ap (with_entry h.ts) same ∙ sym (settled_is (replica_of c.args.editor) e (site_of (replica_of s.editor) s.untold s.seen s.sent.items s.history s.shared s.in_flight) (record { ts = h.ts; may = may; page = page; entry = entry; cites = h.cites })))
     ∙ ap (λ (v : Numbered). with_site (with_new_entry (replica_of c.args.editor) e v.site) v) c.self.view_is

@@ -20,7 +20,7 @@ returns-in_ok-left-in-Foreign-clause-taken g c =
     let dropped = c.saturating_sub.ensures
     ∙ (ap (λ n. n - c.in_ok-left-in-Foreign.left) c.in_ok-pending-in-Foreign.ensures ∙ ap (λ n. length (pending c.args.self.now.site) - n) c.in_ok-left-in-Foreign.ensures.left) in
     ap (λ n. taken.Foreign n c.saturating_sub.result) c.len.ensures
-    ∙ (ap (λ n. taken.Foreign (length c.in-Foreign.entries) n) dropped
+    ∙ (ap (λ n. taken.Foreign (length c.in-Foreign.entries.entries) n) dropped
     ∙ ap (λ (f : Feed). taken_as (feed_of f) c.args.self.now.site c.take_foreign.new.self.site) (sym c.in-Foreign.is))
 
 pub returns-in_ok-left-in-Foreign-clause-steps : goal.returns-in_ok-left-in-Foreign-clause-steps

@@ -99,7 +99,7 @@ invariant_of-self-2 g c =
     let noted : c.note_back.new.self ≡ passed (reversal (map (by_value s.editor.store) last.txs)) s.untold =
     c.note_back.ensures s.editor.store ∙ ap (λ (txs : List (List Operation)). passed (reversal (map (by_value s.editor.store) txs)) s.untold) c.as_slice.ensures in
     let values = c.in-Ok.ensures.txs ∙ ap (λ store. map (by_value store) last.txs) c.doc.ensures.store in
-    undone_is (replica_of s.editor) s.untold s.seen s.sent.items room s.shared s.in_flight is last (sym c.in-Some.ensures) (replica_of c.revert.new.self) page parcel now c.note_back.new.self values done undone noted c.in-Ok.ensures.cites
+    undone_is (replica_of s.editor) s.untold s.seen s.sent.items room s.shared s.in_flight is last (sym c.in-Some.ensures) (replica_of c.revert.new.self) page parcel now c.note_back.new.self values c.in-Ok.ensures.takes_back done undone noted c.in-Ok.ensures.cites
 
 pub returns-clause-site : goal.returns-clause-site
 returns-clause-site g c =
@@ -118,7 +118,7 @@ returns-clause-site g c =
     let values = c.in-Ok.ensures.txs ∙ ap (λ store. map (by_value store) last.txs) c.doc.ensures.store in
     let same = roomy_same (replica_of s.editor) s.untold s.seen s.sent.items s.history s.shared s.in_flight c.self.invariant room c.reserve_undo.ensures.done c.reserve_undo.ensures.undone in
     ap undo (sym (same ∙ ap (λ (v : Numbered). v.site) c.self.view_is))
-    ∙ undo_is (replica_of s.editor) s.untold s.seen s.sent.items room s.shared s.in_flight is last (sym c.in-Some.ensures) (replica_of c.revert.new.self) page parcel now c.note_back.new.self values done undone noted
+    ∙ undo_is (replica_of s.editor) s.untold s.seen s.sent.items room s.shared s.in_flight is last (sym c.in-Some.ensures) (replica_of c.revert.new.self) page parcel now c.note_back.new.self values c.in-Ok.ensures.takes_back done undone noted
 
 pub returns-then-is_err-2-clause-steps : goal.returns-then-is_err-2-clause-steps
 returns-then-is_err-2-clause-steps g c =

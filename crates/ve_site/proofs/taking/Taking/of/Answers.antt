@@ -1,9 +1,10 @@
-use Rattle.std.proofs.Common.{◌≤◌, ◌+◌, [], refl, ap, ◌∙◌, subst}
+use Rattle.std.proofs.Common.{◌≤◌, ◌+◌, refl, ap, ◌∙◌, subst}
 use Rattle.model_site.specs.Untold.{Untold}
 use Rattle.model_items.specs.Cost.{cost_of_tree}
 use Rattle.ve_editor.specs.Page.{replica_of}
 use Rattle.ve_site.specs.Dropped.{only_done}
 use Rattle.ve_site.specs.Numbered.{Numbered, site_of}
+use Rattle.ve_site.specs.Underway.{with_none_undone}
 use Rattle.ve_site.proofs.TakeLemmas.{copied_is, copied_same}
 use Rattle.ve_site.proofs.taking.Taking.of.Goals as goal
 
@@ -13,7 +14,7 @@ returns-clause-site g c =
     ap (λ (u : Untold). site_of (replica_of c.in_ok-editor.editor) u s.seen c.into_vec.result.items (only_done c.in_ok-unsent.unsent) s.shared s.in_flight) c.in_ok-untold.ensures
     ∙ (copied_same (replica_of s.editor) s.untold s.seen s.sent.items s.history s.shared s.in_flight c.site.invariant (replica_of c.in_ok-editor.editor) c.into_vec.result.items (only_done c.in_ok-unsent.unsent)
     (ap replica_of c.in_ok-editor.ensures.ok) (c.into_vec.ensures ∙ (c.in_ok-sent.ensures ∙ c.as_slice.ensures.value)) (c.in_ok-unsent.ensures ∙ c.done.ensures) refl
-    ∙ ap (λ (v : Numbered). record v.site { undone = [] }) c.site.view_is)
+    ∙ ap (λ (v : Numbered). with_none_undone v.site) c.site.view_is)
 
 pub returns-clause-is : goal.returns-clause-is
 returns-clause-is g c =

@@ -1,0 +1,57 @@
+// node --experimental-websocket windows.mjs CHROMIUM ADDRESS: two windows on one page of the service at this address, with real keys.
+import { Browser, until } from "../../editor/browser.mjs";
+
+const [chromium, address] = process.argv.slice(2);
+
+function sure(holds, what) {
+  if (!holds) throw new Error(what);
+}
+
+const lines = (window) => window.value('[...document.querySelectorAll("#page > div")].map((line) => line.textContent).join("\\n")');
+
+// What both windows and the service show.
+async function shows(windows, text, page) {
+  for (const window of windows) await until(`a window shows ${text}`, async () => (await lines(window)) === text);
+  const served = () => fetch(`http://${address}/pages/windows`).then((answer) => answer.text());
+  await until(`the service shows ${page}`, async () => (await served()) === page);
+}
+
+async function opened(browser, name) {
+  const window = await browser.open(`http://${address}/window/?page=windows&name=${name}`);
+  await until("the page is there", () => window.value('document.querySelectorAll("#page > div").length > 0'));
+  await window.value('document.querySelector("#page").focus()');
+  return window;
+}
+
+async function edited(browser) {
+  const [ada, ben] = [await opened(browser, "Ada"), await opened(browser, "Ben")];
+  await ada.value("getSelection().setPosition(document.querySelector('#page > div').firstChild.firstChild, 3)");
+  await ada.type("d!");
+  await ada.key("Enter");
+  await ada.type("ef");
+  await shows([ada, ben], "abcd!\nef", "<p>abcd!</p><p>ef</p>");
+  await ben.value("getSelection().setPosition(document.querySelector('#page > div').firstChild.firstChild, 1)");
+  await ben.key("Backspace");
+  await ben.type("X");
+  await shows([ada, ben], "Xbcd!\nef", "<p>Xbcd!</p><p>ef</p>");
+  await ada.key("Backspace");
+  await shows([ada, ben], "Xbcd!\ne", "<p>Xbcd!</p><p>e</p>");
+  await ada.key("ctrl+z");
+  await shows([ada, ben], "Xbcd!\nef", "<p>Xbcd!</p><p>ef</p>");
+  await until("each sees the other's name", async () => (await ada.value('document.querySelector("#people").textContent')) === "Ben");
+  await until("each sees the other's caret", async () => (await ben.value('document.querySelector("#carets .focus")?.title')) === "Ada");
+  await until("it stands in its line", () => ben.value(`(() => {
+    const [caret, line] = ["#carets .focus", "#page > div:last-child"].map((what) => document.querySelector(what).getBoundingClientRect());
+    return caret.top >= line.top - 2 && caret.bottom <= line.bottom + 2;
+  })()`));
+  sure((await ada.value('document.querySelector("#status").textContent')) === "", "a window complains");
+}
+
+await fetch(`http://${address}/pages/windows`, { method: "PUT", body: "<p>abc</p>" });
+const browser = await Browser.start(chromium);
+try {
+  await edited(browser);
+  console.log("window: ok: two windows of Chromium");
+} finally {
+  await browser.close();
+}
