@@ -42,7 +42,7 @@ fn entry(alloc: Global, tx: Transaction) -> Result<Parcel, Memory>
             txs,
             store_before: 0,
             store_after: 0,
-        takes_back: None,
+            takes_back: None,
         },
         values: ValueList::new(alloc),
     })
