@@ -1,5 +1,7 @@
-use Rattle.std.proofs.Common.{◌≤◌, ◌+◌, sym, subst, ◌∙◌}
+use Rattle.std.proofs.Common.{◌≤◌, ◌+◌, List, sym, subst, ◌∙◌}
+use Rattle.std.proofs.lemmas.Result.{err_from_is_err_and}
 use Rattle.std.specs.Prelude.{Ok}
+use Rattle.model_items.specs.declared.plain_item.PlainItem.{PlainItem}
 use Rattle.model_world.specs.Edits.{checked_transaction}
 use Rattle.ve_changes.specs.Moves.{moved_by}
 use Rattle.ve_changes.specs.Stops.{IsRefused}
@@ -7,9 +9,19 @@ use Rattle.ve_editor.specs.Edited.{drafted}
 use Rattle.ve_session.specs.Asked.{asker, IsAnswered, IsPerformed, IsStopped}
 use Rattle.ve_session.proofs.CostLemmas.{cost_of_meant}
 use Rattle.ve_session.proofs.DraftLemmas.{drafted_at, err_as, move_costs, move_fits, move_same, ok_as}
-use Rattle.ve_session.proofs.TurnLemmas.{answered_by, barred}
+use Rattle.ve_session.proofs.TurnLemmas.{answered_by, barred, unmeant}
 use Rattle.ve_sites.specs.Shared.{member_at, site_at}
 use Rattle.ve_session.proofs.edits.move_part.Goals as goal
+
+pub returns-in_err-draft-clause-refused : goal.returns-in_err-draft-clause-refused
+returns-in_err-draft-clause-refused g c =
+    let old = c.args.session.now in
+    let s = site_at old c.args.k in
+    let r = c.args.request.now in
+    let p = err_from_is_err_and c.from_residual.result c.from_residual.ensures.1 in
+    rw (p.1, p.2)
+    (unmeant r c.args.k old (moved_by s.replica.items r) (λ page. move_same (asker page old c.args.k) r c.requires.moves ∙ c.moves_are_asked.ensures (asker page old c.args.k) r c.requires.moves) c.in_err-draft.field-0.0
+    (subst (λ (l : List PlainItem). IsRefused c.in_err-draft.field-0.0 (moved_by l r)) c.doc_at.ensures.items c.in_err-draft.ensures.refused))
 
 pub perform-requires-clause-apart : goal.perform-requires-clause-apart
 perform-requires-clause-apart g c =

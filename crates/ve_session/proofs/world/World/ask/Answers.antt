@@ -5,13 +5,19 @@ use Rattle.model_world.specs.declared.refusal.Refusal.TheVariants.{BadSite}
 use Rattle.model_world.specs.declared.reply.Reply.{Reply}
 use Rattle.model_world.specs.declared.reply.Reply.TheVariants.{No}
 use Rattle.model_world.specs.Spelled.{reply_text}
-use Rattle.model_world.specs.World.{World}
+use Rattle.model_world.specs.World.{Closed, World}
 use Rattle.ve_session.specs.Asked.{reply_and_world}
 use Rattle.ve_session.specs.Opened.{world_of, world_on}
 use Rattle.ve_session.specs.States.{State}
 use Rattle.ve_session.proofs.PageLemmas.{always}
 use Rattle.ve_session.proofs.WorldLemmas.{bad_site}
 use Rattle.ve_session.proofs.world.World.ask.Goals as goal
+
+pub returns-in_default-clause-reply : goal.returns-in_default-clause-reply
+returns-in_default-clause-reply g c =
+    let world : Closed ≡ c.args.self.now.world = sym (ap world_of c.in_default.is) ∙ ap (λ (s : State). s.world) c.self.view_is in
+    let told = ap (λ (w : World). (reply_and_world w (Ask c.args.request c.args.site)).0) world in
+    subst (λ (x : Reply). OnOk c.refuse.result (c.refuse.new.out ≡ c.args.out.now ++ (reply_text x ++ 10 ∷ []))) told c.refuse.ensures.ok
 
 pub returns-then-site-sites-clause-reply : goal.returns-then-site-sites-clause-reply
 returns-then-site-sites-clause-reply g c =
