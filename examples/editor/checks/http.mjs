@@ -1,4 +1,5 @@
 // What the server answers to those who ask otherwise than its own page.
+/* global TextDecoderStream */
 import assert from "node:assert/strict";
 import http from "node:http";
 import { Core } from "../../../clients/node/index.js";

@@ -1,4 +1,5 @@
 // The service worker: the editor's own files, for when no server gives them. What a server gives is always preferred.
+/* eslint-env serviceworker */
 const CACHE = "vemodel";
 
 addEventListener("install", () => skipWaiting());
