@@ -22,7 +22,13 @@
  *   A refusal is a reply, `no ..`, and changes nothing. What else can happen is told by the results below: there is no
  *   errno, no abort and no output. A world has no end at 64 MiB of lines, as the program has.
  *
- * Pointers are never null, also where the length is 0. No proof bounds the stack that a call takes.
+ * What calls cost (measured; no proof bounds time or stack)
+ *   To open and close a world takes some 40 ns. A step takes what its line asks for: bench/cells of the repository measures that. A
+ *   reply is copied, and nothing is allocated for it. To close a page of 20,000 paragraphs takes some 2 ms, for it is freed in pieces.
+ *   Threads with 48 KiB of stack answer the lines of a plain page. 144 KiB are enough for 98 nodes in one another, and no script of the
+ *   tests needed more than 160 KiB: give a thread 256 KiB.
+ *
+ * The shared library of the release needs glibc 2.14 or later. Pointers are never null, also where the length is 0.
  */
 #include <stdbool.h>
 #include <stddef.h>
