@@ -71,6 +71,9 @@ size_t vemodel_reply(vemodel_handle *handle, uint8_t *out, size_t room);
 /* Closes a handle, and frees what stood behind it. A closed handle stays as it is, and may be opened again. */
 void vemodel_close(vemodel_handle *handle);
 
+/* The library's version: 65,536 times its first number, 256 times its second, and its third. So 0.1.2 is 0x000102. */
+uint32_t vemodel_version(void);
+
 #ifdef __cplusplus
 }
 #endif

@@ -8,6 +8,7 @@ from __future__ import annotations
 import os
 import shlex
 import shutil
+import subprocess
 from collections.abc import Callable
 from pathlib import Path
 from typing import ClassVar
@@ -16,7 +17,7 @@ import web
 
 TOP = Path(__file__).resolve().parents[1]
 # What the C library and the module show. All else in them is their own.
-EXPORTS = ("vemodel_open", "vemodel_step", "vemodel_reply", "vemodel_close")
+EXPORTS = ("vemodel_open", "vemodel_step", "vemodel_reply", "vemodel_close", "vemodel_version")
 # The name by which programs find the library. Its number goes up where a function or the handle changes.
 SONAME = "libvemodel.so.0"
 X86_64, AARCH64 = "x86_64-unknown-linux-gnu", "aarch64-unknown-linux-gnu"
@@ -63,6 +64,11 @@ class Product:
     def require(cls) -> None:
         """Raises Missing where this machine lacks what it is made with."""
 
+    @classmethod
+    def others(cls) -> str:
+        """Returns with which tools beside the toolchain it is made, so that it can be told why another machine makes something else."""
+        return ""
+
     def toolchain(self) -> str:
         """Returns the folder of the tools with which the prover compiles, and makes it where it isn't the kit's."""
         return f"{self.kit}/toolchain"
@@ -83,6 +89,11 @@ def run(call: Call, *words: str) -> None:
     status = call(*words)
     if status:
         raise Failed(status)
+
+
+def said(*words: str) -> str:
+    """Returns what a command prints; nothing where there is no such command."""
+    return subprocess.run(words, capture_output=True, text=True).stdout.strip() if shutil.which(words[0]) else ""
 
 
 class Program(Product):
@@ -127,6 +138,12 @@ class Arm(Product):
         if lacks:
             raise Missing(f"{cls.word} needs {lacks[0]}: install Debian's {ARM_PACKAGES}")
 
+    @classmethod
+    def others(cls) -> str:
+        owners = said("dpkg-query", "--search", *map(str, ARM_FILES)).splitlines()
+        names = sorted({line.split(":")[0] for line in owners})
+        return said("dpkg-query", "--show", *names).replace("\t", " ").replace("\n", ", ") if names else "files of no package"
+
     def toolchain(self) -> str:
         folder = tools_of(self.kit, self.folder)
         for it in ARM_FILES:
@@ -170,6 +187,10 @@ class Web(Product):
     def require(cls) -> None:
         if not shutil.which("wasm-opt"):
             raise Missing(f"{cls.word} needs wasm-opt: install Debian's binaryen")
+
+    @classmethod
+    def others(cls) -> str:
+        return said("wasm-opt", "--version")
 
     def toolchain(self) -> str:
         return str(keeping(self.kit, self.folder))

@@ -16,6 +16,11 @@ library-aarch64 libvemodel-aarch64.so crates/vemodel_c/out/libvemodel-aarch64.so
 words=$(echo "$artifacts" | cut -d ' ' -f 1)
 sums=$top/release/SUMS
 
+# version_number: the version as vemodel_version tells it, which is one number.
+version_number() {
+    tr . ' ' <"$top/VERSION" | { read -r first second third; echo $((65536 * first + 256 * second + third)); }
+}
+
 # artifact WORD: sets released and built, the files of an artifact, and own, what it is made of beside the crates.
 artifact() {
     # shellcheck disable=SC2046  # these are words
@@ -49,18 +54,25 @@ sources_sum() {
     found "$1" -type f -print0 | LC_ALL=C sort -z | (cd "$top" && xargs -0 sha256sum) | sha256sum | cut -d ' ' -f 1
 }
 
-# note_built WORD SUM: notes beside what was just built that it is of the sources with this sum, unless these have changed meanwhile.
+# note_built WORD SUM [TOOLS]: notes beside what was just built that it is of the sources with this sum, unless these have changed meanwhile,
+# and with which tools it was made.
 note_built() {
     artifact "$1"
     rm -f "$built.of"
-    [ "$(sources_sum "$1")" = "$2" ] && echo "$2 $(sum_of "$built")" >"$built.of"
+    [ "$(sources_sum "$1")" = "$2" ] && printf '%s\n' "$2 $(sum_of "$built")" "${3:-}" >"$built.of"
 }
 
 # is_built WORD: what was built here of the sources as they are is there, and is what was built then. (The header is a source.)
 is_built() {
     artifact "$1"
     case $built in */out/*) ;; *) return 0 ;; esac
-    [ -e "$built" ] && [ -e "$built.of" ] && [ "$(cat "$built.of")" = "$(sources_sum "$1") $(sum_of "$built")" ]
+    [ -e "$built" ] && [ -e "$built.of" ] && [ "$(head -n 1 "$built.of")" = "$(sources_sum "$1") $(sum_of "$built")" ]
+}
+
+# tools_here WORD: with which tools what was built here was made. Of what the toolchain makes alone there are none.
+tools_here() {
+    artifact "$1"
+    sed -n 2p "$built.of" 2>/dev/null
 }
 
 # said WORD: what release/SUMS says of an artifact, the sources or the toolchain; nothing where it doesn't.
@@ -68,12 +80,19 @@ said() {
     sed -n "s/^$1 //p" "$sums" 2>/dev/null
 }
 
-# sums_by TOOLCHAIN: what release/SUMS has to be, for the files of release/, the sources as they are, and this toolchain's line.
+# tools_said WORD: the same of the release's, as release/SUMS says. Nothing goes by it: it is there to explain a difference.
+tools_said() {
+    said "$1-tools"
+}
+
+# sums_by TOOLCHAIN TOOLS: what release/SUMS has to be, for the files of release/, the sources as they are, and this toolchain's line, where
+# tools_here or tools_said tells the tools.
 sums_by() {
     for word in $words; do
         artifact "$word"
-        [ ! -e "$released" ] || echo "$word $(sum_of "$released")"
-        [ ! -e "$released" ] || [ -z "$own" ] || echo "$word-sources $(sources_sum "$word")"
+        [ -e "$released" ] || continue
+        echo "$word $(sum_of "$released")"
+        [ -z "$own" ] || printf '%s\n' "$word-sources $(sources_sum "$word")" "$word-tools $("$2" "$word")"
     done
     echo "sources $(sources_sum program)"
     echo "toolchain $1"

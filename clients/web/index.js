@@ -20,6 +20,9 @@ export class Core extends Queue {
   }
 }
 
+// A bundler may have left the file behind.
+const NO_WORKER = "worker.js, or what it imports, isn't beside the client, or may not run: { worker: false } goes without it";
+
 class InWorker {
   #worker = new Worker(new URL("worker.js", import.meta.url), { type: "module" });
 
@@ -30,7 +33,7 @@ class InWorker {
       else if (data.isEnd) told.end(data.failed);
       else told.fail(data.failed);
     };
-    this.#worker.onerror = (event) => told.end(new Ended("trap", { cause: event.message })); // its files aren't there, or may not run
+    this.#worker.onerror = ({ message }) => told.end(message ? new Ended("trap", { cause: message }) : new Error(NO_WORKER));
     this.#worker.postMessage({ module });
   }
 

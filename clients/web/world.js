@@ -54,7 +54,9 @@ export class World {
     if (this.#failure) throw this.#failure;
     if (line.length > LONG) return decoder.decode(this.#answered(encoder.encode(line)));
     this.#makeRoom(3 * line.length);
-    const { written } = encoder.encodeInto(line, this.#view().subarray(Number(this.#buffer)));
+    // A view of all the memory behind it would be too long for engines, where that is over 2 GiB.
+    const begin = Number(this.#buffer);
+    const { written } = encoder.encodeInto(line, this.#view().subarray(begin, begin + this.#room));
     return decoder.decode(this.#stepped(written));
   }
 

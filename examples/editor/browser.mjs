@@ -7,7 +7,7 @@ import { tmpdir } from "node:os";
 import { extname, join } from "node:path";
 import { fileURLToPath } from "node:url";
 
-const PATIENCE = 15_000; // milliseconds; a loaded machine is slow, and one that fails is worth waiting for
+const PATIENCE = 120_000; // milliseconds; a loaded machine is slow, and one that fails is worth waiting for
 
 // Waits until a condition gives something that holds. Tells what it waited for where it never does.
 export async function until(what, condition) {
@@ -172,8 +172,9 @@ class Window {
     return result.value;
   }
 
+  // A window that goes to another page may answer nothing meanwhile.
   ready() {
-    return until("the editor is ready", () => this.value("document.documentElement?.dataset.ready"));
+    return until("the editor is ready", () => this.value("document.documentElement?.dataset.ready").catch(() => false));
   }
 
   async go(url) {
@@ -237,11 +238,12 @@ class Window {
     return this.call("Input.dispatchMouseEvent", { type: "mouseMoved", x: to[0], y: to[1], button: "none", buttons: 0 });
   }
 
-  // From one place to another with the button held down.
-  async drag(from, to, steps = 1) {
+  // From one place to another with the button held down. `midway` is what happens meanwhile.
+  async drag(from, to, steps = 1, midway = () => {}) {
     await this.#mouse("mousePressed", from);
     for (let step = 1; step <= steps; step++) {
       const at = [0, 1].map((k) => from[k] + ((to[k] - from[k]) * step) / steps);
+      if (step === steps / 2) await midway();
       await this.#mouse("mouseMoved", at);
     }
     await this.#mouse("mouseReleased", to);
@@ -251,6 +253,8 @@ class Window {
   async offline(is) {
     await this.call("Network.enable");
     await this.call("Network.emulateNetworkConditions", { offline: is, latency: 0, downloadThroughput: -1, uploadThroughput: -1 });
+    const isOff = () => this.value("fetch('.', { method: 'POST' }).then(() => false, () => true)");
+    await until(`the network is ${is ? "off" : "on"}`, async () => (await isOff()) === is);
   }
 
   close() {

@@ -98,10 +98,12 @@ async function checkCompany() {
   const server = await withServer([sample + SCRIPTS]);
   const ada = await browser.edit(server.of(0)), ben = await browser.edit(server.of(0));
   let expected = await html(ada);
-  for (const [name, act, from, to] of company.steps) {
+  for (const [name, act, ...changes] of company.steps) {
     await check(`company: ${name}`, async () => {
-      assert.equal(expected.split(from).length, 2, `${from} stands once in the page`);
-      expected = expected.replace(from, to);
+      for (const [from, to] of changes) {
+        assert.equal(expected.split(from).length, 2, `${from} stands once in the page`);
+        expected = expected.replace(from, to);
+      }
       await act(ada, ben);
       assert.equal(await meet(ada, ben), expected);
     });
@@ -126,9 +128,10 @@ async function checkCompany() {
 }
 
 async function checkServer() {
-  const server = await withServer([sample, big.page]);
+  const server = await withServer([sample, big.page, "<p>a"]);
   await check("http: windows that open at once", () => http.together(server.of(0)));
   await check("http: lines that a window writes", () => http.writing(server.of(0)));
+  await check("http: a page that the core refuses", () => http.refused(server.of(2)));
   for (const { name, act } of http.cases) await check(name, () => act(server.of(0)));
   await check("a page of 1 MB", async () => {
     const { opens, erases } = await big.check(browser, server.of(1));

@@ -5,21 +5,26 @@ import { until } from "./browser.mjs";
 /** The page that the window's site holds. */
 export const html = async (person) => JSON.parse((await person.value("vemodel.editor.session.read({ do: 'html' })")).slice(3));
 
-/** What the keys and the mouse asked for so far is on the screen. */
-export const idle = (person) => person.value("vemodel.editor.look()");
-
 const isShared = (person) => person.value("vemodel.editor.session.ahead.lines.length === 0");
 
 /** The server has all that was done. */
 export const shared = (person) => until("all is shared", () => isShared(person));
 
-export const notice = (person) => person.value("(({ hidden, textContent }) => hidden ? '' : textContent)(document.querySelector('#notice'))");
+/** What the user was told last, though it may have faded. */
+export const notice = (person) => person.value("document.querySelector('#notice').textContent");
 export const state = (person) => person.value("document.querySelector('#state').textContent");
 export const shows = (person, selector) =>
   person.value(`[...document.querySelectorAll(${JSON.stringify(selector)})].map((dom) => dom.textContent)`);
 
+// What a function in the page finds on the screen. It looks twice: by the next frame what has come into sight is laid out as it is.
+const seen = (person, what, look) => until(`${what} is shown`, () => person.value(`(async () => {
+  const look = ${look};
+  if (look()) await new Promise((next) => requestAnimationFrame(() => setTimeout(next)));
+  return look();
+})()`));
+
 /** Where a text of the page begins and ends on the screen. */
-export const placeOf = (person, text) => until(`${text} is shown`, () => person.value(`(() => {
+export const placeOf = (person, text) => seen(person, text, `() => {
   const walker = document.createTreeWalker(document.querySelector("#page"), NodeFilter.SHOW_TEXT);
   for (let node; (node = walker.nextNode()); ) {
     const at = node.data.indexOf(${JSON.stringify(text)});
@@ -31,46 +36,37 @@ export const placeOf = (person, text) => until(`${text} is shown`, () => person.
     const boxes = [...range.getClientRects()], first = boxes[0], last = boxes.at(-1);
     return [[first.left + 0.5, first.top + first.height / 2], [last.right - 0.5, last.top + last.height / 2]];
   }
-})()`));
+}`);
 
 /** The middle of an element. */
-export const middleOf = (person, selector) => until(`${selector} is shown`, () => person.value(`(() => {
+export const middleOf = (person, selector) => seen(person, selector, `() => {
   const dom = document.querySelector(${JSON.stringify(selector)});
   if (!dom) return null;
   dom.scrollIntoView({ block: "nearest" });
   const box = dom.getBoundingClientRect();
   return [box.x + box.width / 2, box.y + box.height / 2];
-})()`));
+}`);
 
 // What others type moves the text, so the other window's turns have to be on the screen, too: `meet` sees to that where it matters.
 export async function clickAfter(person, text) {
-  await idle(person);
   await person.click((await placeOf(person, text))[1]);
-  await idle(person);
 }
 
 export async function clickOn(person, selector) {
-  await idle(person);
   await person.click(await middleOf(person, selector));
-  await idle(person);
 }
 
 export async function tripleClick(person, text) {
-  await idle(person);
   const [[x, y], [end]] = await placeOf(person, text);
   await person.click([(x + end) / 2, y], 3);
-  await idle(person);
 }
 
 export async function dragOver(person, text) {
-  await idle(person);
   await person.drag(...(await placeOf(person, text)));
-  await idle(person);
 }
 
 export async function press(person, name) {
   await person.click(await middleOf(person, `[data-do=${name}]`));
-  await idle(person);
 }
 
 /** The browser has the editor's files, so that it opens without a server. */
@@ -80,31 +76,45 @@ export const filesKept = (person) => until("the files are kept", () => person.va
 export async function choose(person, menu, word) {
   await person.value(`(() => {
     const dom = document.querySelector("#bar select[aria-label='${menu}']");
+    dom.dispatchEvent(new MouseEvent("mousedown", { bubbles: true }));
     dom.value = "${word}";
     dom.dispatchEvent(new Event("change", { bubbles: true }));
   })()`);
-  await idle(person);
 }
 
 /** As fast as they go; what is to come of them waits its turn. */
 export async function keys(person, ...names) {
   await Promise.all(names.map((name) => person.key(name)));
-  await idle(person);
 }
 
 export async function selectAll(person) {
   await person.key("ctrl+a", "selectAll");
-  await idle(person);
 }
 
 // The clipboard is for the window in front.
 async function byClipboard(person, key, command) {
   await person.call("Page.bringToFront");
   await person.key(key, command);
-  await idle(person);
 }
 export const cut = (person) => byClipboard(person, "ctrl+x", "cut");
 export const pasteBack = (person) => byClipboard(person, "ctrl+v", "paste");
+
+/** Acts while the browser tells of no selection: it does so late, and another's change may come before. */
+export async function untold(person, act) {
+  await person.value("addEventListener('selectionchange', globalThis.mute = (event) => event.stopImmediatePropagation(), true)");
+  await act();
+  await person.value("removeEventListener('selectionchange', mute, true)");
+}
+
+/** Acts while what the window sends doesn't leave it. */
+export async function unsent(person, act) {
+  await person.value(`void (({ fetch }) => {
+    const leave = new Promise((tell) => (globalThis.leave = tell));
+    globalThis.fetch = (...words) => leave.then(() => (globalThis.fetch = fetch)(...words));
+  })(globalThis)`);
+  await act();
+  await person.value("leave()");
+}
 
 /** Copies, and gives the HTML that other programs get. */
 export async function copied(person) {

@@ -37,13 +37,14 @@ export class Room {
   #sums; // of the first lines, by their number
   #bytes;
   #counts; // of each site's lines
+  #fault; // why the page isn't there
   #windows = new Map(); // by their secrets: `{ site, wire, since, presence }`
   #turns = Promise.resolve();
 
   /** `newCore` starts a core; `page` is the page as it is before anybody edits it. */
   constructor(newCore, page) {
     this.#newCore = newCore;
-    this.#inTurn(() => this.#begin(randomUUID(), [openLine(page)])).catch(() => {}); // who joins is told
+    this.#inTurn(() => this.#begin(randomUUID(), [openLine(page)])).catch((error) => (this.#fault = error));
   }
 
   // Another log in the place of this one. The windows are sent away, and come again.
@@ -93,13 +94,14 @@ export class Room {
    */
   join(wire, { id: known, site: wanted, log, length, sum }) {
     return this.#inTurn(async () => {
+      if (!this.#core) throw this.#fault;
       const isKnown = log === this.#log && this.#sums[length] === sum;
       const id = isKnown && known ? known : randomUUID();
       const site = this.#windows.get(id)?.site ?? (await this.#free(isKnown ? wanted : undefined));
       this.#windows.set(id, { site, wire });
       wire.send("hello", { id, site, log: this.#log, length: this.#lines.length, isKnown, isUntouched: this.#lines.length === 1 });
       for (let k = isKnown ? length : 0; k < this.#lines.length; k += PIECE) wire.send("lines", { lines: this.#lines.slice(k, k + PIECE) });
-      for (const { site: other, presence } of this.#windows.values()) if (presence) wire.send("presence", { site: other, ...presence });
+      for (const { site: other, presence } of this.#windows.values()) if (presence) wire.send("presence", { ...presence, site: other });
       return id;
     });
   }
@@ -150,7 +152,7 @@ export class Room {
       } finally {
         this.#tellLines(first);
       }
-      if (presence) this.#tell(id, "presence", { site: window.site, ...(window.presence = presence) });
+      if (presence) this.#tell(id, "presence", { ...(window.presence = presence), site: window.site });
     });
   }
 
@@ -171,6 +173,7 @@ export class Room {
   /** The log of a window that went on without a server, in the place of one to which nobody wrote. */
   seed(old, log, lines) {
     return this.#inTurn(() => {
+      if (!this.#core) throw this.#fault;
       const isUntouched = old === this.#log && this.#lines.length === 1 && lines[0] === this.#lines[0];
       if (!isUntouched) throw new Rejected(409, "there is another log of this page");
       for (const line of lines.slice(1)) checked(line, (site) => site in this.#counts);

@@ -17,6 +17,7 @@ class Visitor:
     reads: Callable[[str], bool]  # of a page's name
     writes: Callable[[str], bool]
     operates: bool = False  # sees the metrics
+    account: str = ""  # whose share of the programs' time it takes; else each key has one
 
 
 # None is for who may do nothing at all. `tokens.py` has one by signed tokens.

@@ -77,15 +77,24 @@ class Connection:
     def __init__(self, socket: ClientWebSocketResponse) -> None:
         self.socket = socket
         self.site, self.since, self.n = -1, -1, 0
+        self._heard: asyncio.Queue[str] = asyncio.Queue()
+        self._reading = asyncio.create_task(self._read())
+
+    async def _read(self) -> None:
+        """All the time, as this answers pings, too."""
+        while (told := await self.socket.receive()).type is WSMsgType.TEXT:
+            if not is_news(json.loads(told.data)):
+                self._heard.put_nowait(str(told.data))
+        self._heard.put_nowait("")
 
     @classmethod
     async def to(cls, session: ClientSession, server: str, page: str) -> Connection:
         return cls(await session.ws_connect(f"http://{server}/pages/{page}/edit", max_msg_size=0, timeout=0.1))
 
     @classmethod
-    async def seated(cls, session: ClientSession, server: str, page: str) -> Connection:
+    async def seated(cls, session: ClientSession, server: str, page: str, key: str = "") -> Connection:
         it = await cls.to(session, server, page)
-        await it.say(json.dumps({"key": secrets.token_urlsafe()}))
+        await it.say(json.dumps({"key": key or secrets.token_urlsafe()}))
         await it.sit()
         return it
 
@@ -99,12 +108,7 @@ class Connection:
         return await self.hear()
 
     async def hear(self) -> str:
-        while True:
-            told = await self.socket.receive(SOON)
-            if told.type is not WSMsgType.TEXT:
-                return ""
-            if not is_news(json.loads(told.data)):
-                return str(told.data)
+        return await asyncio.wait_for(self._heard.get(), SOON)
 
     async def do(self, **line: Any) -> str:
         self.n += 1

@@ -14,6 +14,8 @@ class Limits:
     quiet: float  # seconds without a line
     absent: float  # seconds without a connection of a seat's holder
     turn: float  # seconds without a line of a seat's holder after which somebody else may be lent it
+    most_seconds: float  # of a processor, for running it: from here on at once
+    most_growth: int  # bytes that its program takes for it, beside the page: from here on at once
 
 
 @dataclass(frozen=True)
@@ -38,6 +40,7 @@ class Rise:
 class Ask:
     """A command that changes nothing, of who has a seat or of who only reads."""
     holder: str
+    payer: str  # whose share of the program's time it takes
     line: Line
     size: int
 
@@ -46,6 +49,7 @@ class Ask:
 class Change:
     """Line `n` of this writer, made on a list that began with the log's line `since`."""
     holder: str
+    payer: str
     n: int
     since: int
     line: Line
@@ -55,6 +59,7 @@ class Change:
 @dataclass(frozen=True)
 class Show:
     """The committed page."""
+    holder: str = ""
 
 
 Request = Enter | Sit | Rise | Ask | Change | Show

@@ -28,27 +28,39 @@ class Cutting:
         return self._world.load >= self._limits.most_bytes
 
     async def cut_in_time(self) -> None:
-        """A long log at a quiet moment, and a very long one at once."""
+        """A long log at a quiet moment, and at once a very long one, or one that is hard to run."""
         world, now = self._world, asyncio.get_running_loop().time()
-        if now < self._after or world.load < self._limits.cut_bytes:
+        if now < self._after:
             return
         quiet = now - world.newest
-        pending = [site for site, seat in enumerate(world.seats.seats) if seat.pending]
         # Somebody who has something unsent and thinks is waited for, but not for ever.
-        if self.full or quiet >= (self._limits.absent if pending else self._limits.quiet):
-            for site in pending:
-                await self._seating.settle(site)
-                await world.keep()
-            await self._cut()
+        patience = self._limits.absent if any(seat.pending for seat in world.seats.seats) else self._limits.quiet
+        is_hard = world.seconds >= self._limits.most_seconds or world.growth >= self._limits.most_growth
+        if self.full or is_hard or (world.load >= self._limits.cut_bytes and quiet >= patience):
+            await self.cut()
 
-    async def _cut(self) -> None:
+    async def cut(self) -> None:
+        """What is pending is sent before; or dropped, where that takes too long."""
+        world = self._world
+        dropped = set()
+        for site, seat in enumerate(world.seats.seats):
+            if seat.pending:
+                try:
+                    await self._seating.settle(site)
+                    await world.keep()
+                except Ended:
+                    dropped.add(site)
+                    await world.renew()
+        await self._cut(dropped)
+
+    async def _cut(self, dropped: set[int]) -> None:
         world = self._world
         replies = await world.read(
-            *({"do": "send", "site": site} for site in range(VIEW)),
+            *({"do": "caret" if site in dropped else "send", "site": site} for site in range(VIEW)),
             *({"do": "caret", "site": site} for site in range(VIEW)),
             *({"do": what, "at": 0, "site": VIEW} for what in ("html", "at")))
         sends, carets, (page, root) = replies[:VIEW], replies[VIEW:2 * VIEW], replies[2 * VIEW:]
-        if any(reply.startswith("ok") for reply in sends):
+        if any(reply.startswith("ok") for site, reply in enumerate(sends) if site not in dropped):
             raise Lost(f"{world.name}: a site has something pending that wasn't counted")
         line: Line = {"do": "open", "page": json.loads(page[3:]), "sites": SITES, "log": world.seats.told()}
         try:

@@ -100,6 +100,7 @@ class Homes:
         while True:
             await asyncio.sleep(IDLE / 4)
             self._elsewhere.clear()
+            self._shared.costs.forget()
             for page in [page for page in self.pages.values() if page.idle >= IDLE]:
                 await self._leave(page)
 

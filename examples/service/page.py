@@ -5,24 +5,28 @@ import asyncio
 import contextlib
 import sys
 from collections import deque
-from collections.abc import Callable
+from collections.abc import Awaitable, Callable, Iterable
+from typing import TypeVar
 
 from asks import Ask, Change, Enter, Request, Rise, Show, Sit
 from cutting import Cutting
 from feed import Feed
 from log import Lost, Span
 from presence import Presence
-from programs import Crowded, Ended
+from programs import Crowded, Ended, Late
 from seating import Seating
 from seats import VIEW, Line
-from turns import Queued, Turn
+from turns import Queued, Slow, Turn
 from world import Shared, Strange, World
 
-MOST_LINES = 200  # of one turn
+MOST_LINES = 200  # of one turn; fewer where they take long
+LONG = 0.5  # seconds of a processor that a turn is to take at most
 MOST_BYTES = 8 << 20  # of one turn, but that its first line may be longer
 PAUSE = 1.0  # seconds between two looks at what has grown and who has gone
 SOON = 0.1  # and where somebody waits for a seat
 AGAIN = 60.0  # seconds until it looks again where the program ended over it
+
+T = TypeVar("T")
 
 
 class Page:
@@ -30,7 +34,7 @@ class Page:
         """`gone` is called once the page answers nothing more."""
         self.name, self.feed = name, feed
         self.presence = Presence()
-        self._log, self._gone = shared.log, gone
+        self._log, self._costs, self._gone = shared.log, shared.costs, gone
         self._world = World(name, shared, feed)
         self.seating = Seating(self._world, shared.limits, self.presence.seat_taken)
         self._cutting = Cutting(self._world, self.seating, shared.limits)
@@ -39,6 +43,8 @@ class Page:
         self._tidied = 0.0
         self.over = asyncio.Event()  # nothing is answered any more, so who is here is to connect anew
         self._requests: deque[Queued] = deque()
+        self._owing: list[Queued] = []  # of who takes more than a part of the program's time, until it may go on
+        self._most = MOST_LINES  # of the next turn
         self._standing: deque[tuple[Queued, float]] = deque()  # who waits for a seat, and since when
         self._wake = asyncio.Event()
 
@@ -62,7 +68,7 @@ class Page:
 
     @property
     def waiting(self) -> int:
-        return len(self._requests) + len(self._standing)
+        return len(self._requests) + len(self._owing) + len(self._standing)
 
     @property
     def idle(self) -> float:
@@ -111,10 +117,11 @@ class Page:
             print(fault, file=sys.stderr, flush=True)
         finally:
             self.over.set()
-            for _, answer in (*taken, *self._requests, *(queued for queued, _ in self._standing)):
+            for _, answer in (*taken, *self._requests, *self._owing, *(queued for queued, _ in self._standing)):
                 if not answer.done():
                     fail(answer, self.name)
             self._requests.clear()
+            self._owing.clear()
             self._standing.clear()
             self._gone(self)
             await self._world.close()
@@ -131,39 +138,66 @@ class Page:
         self._resting = False
 
     def _take(self) -> list[Queued]:
-        """The requests of the next turn: lines, or one that needs several steps."""
+        """The requests of the next turn: lines, or one that needs several steps. Whoever owes waits, with all that it asks."""
+        self._requests.extendleft(reversed(self._owing))
+        self._owing.clear()
         taken: list[Queued] = []
         size = 0
-        while self._requests and len(taken) < MOST_LINES and size < MOST_BYTES:
+        owing: set[str] = set()
+        while self._requests and len(taken) < self._most and size < MOST_BYTES:
             request, _ = self._requests[0]
-            if not isinstance(request, (Ask, Change)):
+            if isinstance(request, (Ask, Change)) and self._costs.owes(request.payer):
+                owing.add(request.holder)
+            if request.holder in owing:
+                self._owing.append(self._requests.popleft())
+            elif isinstance(request, (Ask, Change)):
+                size += request.size
+                taken.append(self._requests.popleft())
+            else:
                 return taken or [self._requests.popleft()]
-            size += request.size
-            taken.append(self._requests.popleft())
         return taken
 
     async def _turn(self, taken: list[Queued]) -> None:
-        """Where the program ends, the log is run by another one, and each request is done by itself; so the one on which it
-        ends is its sender's alone."""
+        """Where the program ends, the log is run by another one. A line that took too long is its sender's fault, and the
+        others are done in the next turn. Else each is done by itself; so the one on which it ends is its sender's alone."""
         try:
             await self._do(taken)
-            return
+            self._most = max(1, self._most // 2) if sum(self._world.spent) > LONG else min(MOST_LINES, 2 * self._most)
+        except Slow as fault:
+            await self._world.renew()
+            self._costs.pay(fault.request.payer, self._world.seconds)
+            for queued in taken:
+                if queued[0].holder == fault.request.holder:
+                    self._ended(queued, str(fault))
+            self._again(queued for queued in taken if not queued[1].done())
+        except Late:
+            await self._world.renew()
+            self._most = max(1, len(taken) // 4)
+            self._again(taken)
         except Ended as fault:
             await self._world.renew()
-            ended = {"error": "ended", "why": str(fault)}
+            await self._one_by_one(taken, str(fault))
+
+    async def _one_by_one(self, taken: list[Queued], why: str) -> None:
         guilty: set[str] = set()
         for queued in taken:
-            request, answer = queued
-            number = {"n": request.n} if isinstance(request, Change) else {}
-            if not (isinstance(request, (Ask, Change)) and request.holder in guilty):
+            holder = queued[0].holder
+            if holder not in guilty:
                 try:
                     await self._do([queued])
                     continue
-                except Ended:
+                except (Ended, Slow):
                     await self._world.renew()
-            if isinstance(request, (Ask, Change)):
-                guilty.add(request.holder)
-            self._answer(answer, {**number, **ended})
+            guilty.add(holder)
+            self._ended(queued, why)
+
+    def _again(self, taken: Iterable[Queued]) -> None:
+        self._requests.extendleft(reversed(list(taken)))
+
+    def _ended(self, queued: Queued, why: str) -> None:
+        request, answer = queued
+        number = {"n": request.n} if isinstance(request, Change) else {}
+        self._answer(answer, {**number, "error": "ended", "why": why})
 
     async def _do(self, taken: list[Queued]) -> None:
         request, answer = taken[0]
@@ -172,9 +206,7 @@ class Page:
         elif isinstance(request, Sit):
             self._standing.append((taken[0], asyncio.get_running_loop().time()))
         elif isinstance(request, Rise):
-            site = self._world.seats.writer(request.holder).site
-            if site is not None:
-                await self.seating.free(site)
+            await self._surely(lambda: self.seating.rise(request.holder))
             self._answer(answer, {"site": None, "done": self._world.seats.writer(request.holder).done})
         elif isinstance(request, Enter):
             self._answer(answer, self._entered(request.holder))
@@ -183,7 +215,7 @@ class Page:
             self._answer(answer, {"reply": reply, "next": self._world.next})
 
     async def _lines(self, taken: list[Queued]) -> None:
-        turn = Turn(self._world, self.seating, self._cutting)
+        turn = Turn(self._world, self.seating, self._cutting, self._costs)
         for place, queued in enumerate(taken):
             if not turn.takes(queued):
                 self._requests.extendleft(reversed(taken[place:]))
@@ -222,7 +254,7 @@ class Page:
         if self._cutting.full:
             return {"error": "full"}
         try:
-            return await self.seating.lend(holder, waited)
+            return await self._surely(lambda: self.seating.lend(holder, waited))
         except Ended as fault:
             await self._world.renew()
             return {"error": "ended", "why": str(fault)}
@@ -234,11 +266,24 @@ class Page:
             return
         self._tidied = now
         try:
-            await self.seating.free_absent()
+            await self._surely(self.seating.free_absent)
             await self._cutting.cut_in_time()
         except Ended:
             await self._world.renew()
             self._tidied = now + AGAIN
+
+    async def _surely(self, step: Callable[[], Awaitable[T]]) -> T:
+        """A step for which somebody's changes are sent. Where that takes too long they are dropped, by a cut."""
+        for again in True, False:
+            try:
+                return await step()
+            except Ended as fault:
+                await self._world.renew()
+                if again and not isinstance(fault, Late):
+                    continue
+                await self._cutting.cut()
+                break
+        return await step()
 
 
 def fail(answer: asyncio.Future[Line], name: str) -> None:

@@ -86,6 +86,11 @@ class Seating:
         await self.free(site)
         self._taken(holder, self._world.seats.writer(holder).done)
 
+    async def rise(self, holder: str) -> None:
+        site = self._world.seats.writer(holder).site
+        if site is not None:
+            await self.free(site)
+
     async def free(self, site: int) -> None:
         """Nobody has this seat any more. What its holder made is committed, rather than lost."""
         await self.settle(site)

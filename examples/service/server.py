@@ -15,10 +15,11 @@ from aiohttp import ClientSession, web
 
 from access import Access, Gate, access
 from asks import Limits
+from costs import Costs
 from homes import Homes
 from log import Log, Lost
 from log_sqlite import SqliteLog
-from programs import PROGRAM, Crowded, Programs
+from programs import PROGRAM, Bounds, Crowded, Programs
 from service import Service
 from watch import Watch
 from window import Window
@@ -39,7 +40,19 @@ class Requests:
 
     @web.middleware
     async def answer(self, request: web.Request, handler: Handler) -> web.StreamResponse:
+        """The answer to a connection's one request."""
         self._watch.heard(request.protocol)
+        hold(request)
+        try:
+            answer = await self._answer(request, handler)
+        except web.HTTPException as told:
+            told.force_close()
+            raise
+        if not answer.prepared:
+            answer.force_close()
+        return answer
+
+    async def _answer(self, request: web.Request, handler: Handler) -> web.StreamResponse:
         self._gate.check(request)
         visitor = self._allowed(request)
         if visitor is None:
@@ -55,6 +68,15 @@ class Requests:
             raise web.HTTPBadRequest(text=f"{fault}\n") from fault
         except Strange as fault:
             raise web.HTTPInternalServerError(text=f"{fault}\n") from fault
+
+
+def hold(request: web.Request) -> None:
+    """Nothing is read of what a connection sends ahead: aiohttp would keep it all. `Wire.begin` goes on, and `create`."""
+    if "Upgrade" in request.headers and request.transport is not None:
+        assert isinstance(request.transport, asyncio.ReadTransport)
+        request.transport.pause_reading()
+    elif not request.body_exists:
+        request.protocol.close()
 
 
 async def safe(request: web.Request, answer: web.StreamResponse) -> None:
@@ -100,8 +122,9 @@ async def serve(given: argparse.Namespace) -> None:
     homes, wires = Homes(), Wires()
     watch = Watch(wires, given.waiting)
     log = engine(given, homes)
-    programs = Programs(given.program, given.programs, given.memory, homes.spare)
-    shared = Shared(log, programs, Limits(given.cut, given.most, given.quiet, given.absent, given.turn))
+    programs = Programs(given.program, given.programs, Bounds(given.memory, given.line), homes.spare)
+    limits = Limits(given.cut, given.most, given.quiet, given.absent, given.turn, given.run, given.memory // 4)
+    shared = Shared(log, programs, limits, Costs(given.share))
     async with contextlib.AsyncExitStack() as stack:
         homes.begin(shared)
         await log.open()
@@ -137,11 +160,14 @@ def words() -> argparse.ArgumentParser:
     known.add_argument("--history", action="store_true", help="keep the lines before a cut")
     known.add_argument("--program", type=Path, default=PROGRAM)
     known.add_argument("--programs", type=int, default=100, help="that run at once: one for each page that is open")
-    known.add_argument("--memory", type=int, default=1 << 30, metavar="BYTES", help="of each of them")
+    known.add_argument("--memory", type=int, default=2 << 30, metavar="BYTES", help="of each of them")
+    known.add_argument("--line", type=float, default=2, metavar="SECONDS", help="of a processor, that a line may take")
+    known.add_argument("--share", type=float, default=0.125, help="of a processor, that the lines of one person may take in the long run")
     known.add_argument("--waiting", type=int, default=256 << 20, metavar="BYTES", help="that all connections together may let wait")
     known.add_argument("--page", type=int, default=1 << 20, metavar="BYTES", help="of a new page")
     known.add_argument("--cut", type=int, default=1 << 20, metavar="BYTES", help="cut a longer log at a quiet moment")
     known.add_argument("--most", type=int, default=16 << 20, metavar="BYTES", help="cut a longer log at once")
+    known.add_argument("--run", type=float, default=3, metavar="SECONDS", help="cut a log at once that takes a processor longer to run")
     known.add_argument("--quiet", type=float, default=5, metavar="SECONDS", help="without a line")
     known.add_argument("--absent", type=float, default=120, metavar="SECONDS", help="after which a seat's holder loses it")
     known.add_argument("--turn", type=float, default=0.5, metavar="SECONDS", help="without a line, after which a seat may be another's")

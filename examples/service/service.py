@@ -65,10 +65,11 @@ class Service:
         name = named(request, write=True)
         async with asyncio.timeout(BODY):
             text = (await request.read()).decode()
+        request.protocol.close()  # what is sent behind it isn't read
         line = spelled({"do": "open", "page": text, "sites": SITES, "log": Seats().told()})
         core = await self._shared.programs.start()
         try:
-            [reply] = await core.run([line])
+            reply = await core.open(line)
         except Ended as fault:
             raise web.HTTPInsufficientStorage(text=f"{fault}\n") from fault
         finally:
@@ -105,6 +106,7 @@ class Service:
         """The log from a number on, or from the newest `open`: what the program is to run for the page."""
         name, span, number = await self._span(request)
         answer = web.StreamResponse(headers={"Content-Type": "application/jsonl; charset=utf-8"})
+        answer.force_close()
         await answer.prepare(request)
         while number < span.next and (rows := await self._shared.log.read(name, number)):
             await answer.write("".join(line + "\n" for _, line in rows).encode())
@@ -209,7 +211,7 @@ class Service:
         try:
             await wire.tell({**entered, "who": guest.who, "name": name, "holder": holder, "server": self._address})
             span = Span(entered["open"], entered["next"])
-            talk = Talk(page, wire, guest, visitor.writes(page.name))
+            talk = Talk(page, wire, guest, visitor)
             with self._homes.following(page.name, span) as feed:
                 lines = [] if number is None else [feed.follow(number if number <= span.next else span.first, wire)]
                 await talk.run(*lines)

@@ -5,24 +5,26 @@ from __future__ import annotations
 import asyncio
 import json
 import os
+import secrets
 import signal
 import socket
 import tempfile
-from collections.abc import Iterator
+from collections.abc import Awaitable, Iterator
 from contextlib import contextmanager
 from pathlib import Path
 
 from aiohttp import ClientSession
 
 import cluster
-from adversary import SOON, Adversary, Bystander, Connection
+from adversary import SECRET, SOON, Adversary, Bystander, Connection
 from judge import sure
 
 MEGABYTE = 1 << 20
 MEMORY = 160 * MEGABYTE  # that the server may grow by
 LATE = 40.0  # seconds after which who sends or reads nothing has surely been ended
-PROGRAMS = 4
-MOST = 200_000  # bytes of a log
+UNASKED = 28.0  # and before which nobody is ended who doesn't answer pings
+PROGRAMS = 6
+MOST = 100_000  # bytes of a log
 
 
 def frame(text: str) -> bytes:
@@ -44,8 +46,9 @@ class Siege:
 
     async def all(self) -> None:
         before = self._server.memory
-        slow = [asyncio.create_task(part) for part in (self.half_a_request(), self.half_a_page(), self.reads_nothing())]
-        for part in (self.hurries, self.wants_memory, self.programs_end, self.visits, self.crowd, self.long_log, self.many_pages):
+        slow = [asyncio.create_task(part) for part in (
+            self.half_a_request(), self.half_a_page(), self.half_a_message(), self.reads_nothing())]
+        for part in (self.hurries, self.wanders, self.asks_ahead, self.wants_memory, self.wants_time, self.programs_end, self.visits, self.crowd, self.long_log, self.many_pages):
             await part()
             await self._bystander.unharmed(part.__name__)
         for task in slow:
@@ -82,6 +85,17 @@ class Siege:
         sure(b" 408 " in answer, f"half a page is answered {answer!r}")
         writer.close()
 
+    async def half_a_message(self) -> None:
+        """Forty begin messages of a megabyte, and don't end them: some by a frame that isn't the last, some within a frame."""
+        frames = [head + b"\xff" + size.to_bytes(8, "big") + bytes(4) + b"x" * 1_000_000
+                  for head, size in ((b"\x01", 1_000_000), (b"\x81", 1_000_001))]
+        connections = [await self._upgraded("calm") for _ in range(40)]
+        for n, (_, writer) in enumerate(connections):
+            writer.write(frame('{"key":"nobody can guess it"}') + frames[n % 2])
+        sure(all(await asyncio.gather(*(ended(reader, UNASKED) for reader, _ in connections))), "half a message is waited for")
+        for _, writer in connections:
+            writer.close()
+
     async def reads_nothing(self) -> None:
         """Asks for 100 answers of a megabyte, and reads none."""
         cluster.put(self._server.address, "wide", "<p>" + "\x01" * 180_000 + "</p>")
@@ -106,26 +120,91 @@ class Siege:
             pass
         writer.close()
 
+    async def wanders(self) -> None:
+        """Five say thousands of times where they are; an answer to another one comes between."""
+        there = frame('{"here":{"anchor":1,"focus":1,"entries":0}}')
+        connections = [await self._upgraded("calm") for _ in range(5)]
+        for _, writer in connections:
+            writer.write(frame('{"key":"nobody can guess it"}') + there * 5000 + frame('{"ask":"over","line":{"do":"at","at":0}}'))
+        reading = [asyncio.create_task(hears(reader, b'"over"')) for reader, _ in connections]
+        answered = 0
+        while not any(task.done() for task in reading):
+            await self._bystander.unharmed("wandering")
+            answered += 1
+        sure(answered > 3, f"beside who wanders there were {answered} answers")
+        await asyncio.gather(*reading)
+        for _, writer in connections:
+            writer.close()
+
+    async def asks_ahead(self) -> None:
+        """Sends 20 megabytes of requests, and doesn't wait for an answer, which takes a while."""
+        cluster.put(self._server.address, "busy", "<p>" + "x" * 400_000 + "</p>")
+        evil = await Connection.seated(self._session, self._server.address, "busy")
+        busy = asyncio.create_task(evil.do(do="batch", cmds=marks("unmark", 400_000, 1000)))
+        await asyncio.sleep(0.2)
+        asked = f"GET /pages/busy HTTP/1.1\r\nHost: {self._server.address}\r\n\r\n".encode()
+        reader, writer = await self._connected(asked)
+        try:
+            for _ in range(20):
+                writer.write(asked * (MEGABYTE // len(asked)))
+                await asyncio.wait_for(writer.drain(), SOON)
+        except (OSError, asyncio.TimeoutError):
+            pass
+        sure(await ended(reader), "who asks ahead is answered on")
+        writer.close()
+        await busy
+        await evil.socket.close()
+
     async def wants_memory(self) -> None:
-        """A short line whose change needs more than a program may have."""
-        cluster.put(self._server.address, "marks", "<p>" + "x" * 400_000 + "</p>")
-        connection = await Connection.seated(self._session, self._server.address, "marks")
-        marks = [{"do": "mark", "from": 1, "to": 400_000, "tag": "b", "attrs": [["id", str(n)]]} for n in range(60)]
-        answer = await connection.do(do="batch", cmds=marks)
-        sure('"error":"ended"' in answer or '"reply"' in answer, f"a line that needs much memory is answered {answer[:200]!r}")
-        page = cluster.get(self._server.address, "/pages/marks")
-        sure(page.startswith("<p>xxx"), "a page is gone with a line that needed much memory")
+        """A short line whose change needs more than a program may have. Time there would be for it."""
+        evil = await self._too_much("marks", 400_000, marks("mark", 400_000, 3), "memory")
+        await evil.socket.close()
+
+    async def wants_time(self) -> None:
+        """A line that looks at all letters again and again, and then another one of the same person, which waits."""
+        evil = await self._too_much("slow", 400_000, marks("unmark", 400_000, 1000), "time")
+        sure(await silent(evil.do(do="select", anchor=0, focus=0)), "who took a page's time goes on at once")
+        await evil.socket.close()
+
+    async def _too_much(self, page: str, length: int, cmds: list[dict[str, object]], why: str) -> Connection:
+        """Somebody asks for much on a long page, by one line, and is refused; another one there goes on. The connection by which
+        the first one came again."""
+        cluster.put(self._server.address, page, "<p>" + "x" * length + "</p>")
+        other = await Connection.seated(self._session, self._server.address, page)
+        await other.do(do="text", at=1, text=SECRET)
+        key = secrets.token_urlsafe()
+        for _ in range(2):
+            evil = await Connection.seated(self._session, self._server.address, page, key)
+            answers = await asyncio.gather(evil.do(do="batch", cmds=cmds), other.do(do="text", at=1, text="q"))
+            sure('"error":"ended"' in answers[0] and why in answers[0], f"a line that takes much {why} is answered {answers[0]}")
+            sure('"reply":"ok' in answers[1], f"beside a line that takes much {why} another one is answered {answers[1]}")
+        shown = await other.say('{"ask":0,"line":{"do":"html"}}')
+        sure("qq" + SECRET in shown, f"after lines that took much {why} a page is {shown[:100]}")
+        sure('"batch"' not in cluster.get(self._server.address, f"/pages/{page}/lines"), f"a line that takes much {why} is in the log")
+        await other.socket.close()
+        return await Connection.seated(self._session, self._server.address, page, key)
 
     async def programs_end(self) -> None:
-        """All programs are killed, as where the machine has no memory."""
+        """All programs are killed, as where the machine has no memory; and somebody sits down, before anybody else asks."""
         for program in self._server.programs:
             os.kill(program, signal.SIGKILL)
+        other = await Connection.seated(self._session, self._server.address, "calm")
+        await other.socket.close()
 
     async def visits(self) -> None:
-        """Twelve come, sit down, and go."""
+        """Somebody comes and reads. Twelve come, sit down, and go: each gives its seat back."""
+        cluster.put(self._server.address, "visited", "<p>ab</p>")
+        reader = await Connection.to(self._session, self._server.address, "visited")
+        await reader.say('{"key":"somebody who reads"}')
+        await reader.say('{"ask":0,"line":{"do":"html"}}')
+        sure("join" not in cluster.get(self._server.address, "/pages/visited/lines"), "who reads takes a seat")
+        await reader.socket.close()
         for _ in range(12):
-            connection = await Connection.seated(self._session, self._server.address, "calm")
+            connection = await Connection.seated(self._session, self._server.address, "visited")
             await connection.socket.close()
+        async with asyncio.timeout(SOON):
+            while cluster.get(self._server.address, "/pages/visited/lines").count('"log":{"leave":true}') < 12:
+                await asyncio.sleep(0.1)
 
     async def crowd(self) -> None:
         """Twelve sit down at once, and each writes."""
@@ -147,6 +226,10 @@ class Siege:
                 await busy.do(do=("send", "take")[n % 3 - 1])
             elif '"error":"cut"' in (told := await busy.do(do="text", at=1, text="x")):
                 busy.since = json.loads(told)["since"]
+        async with asyncio.timeout(SOON):
+            while '"reply":"ok' not in (told := await busy.do(do="text", at=1, text="x")):
+                busy.since = json.loads(told).get("since", busy.since)
+                await asyncio.sleep(0.1)
         size = len(cluster.get(self._server.address, "/pages/log/lines"))
         sure(size < 1.5 * MOST, f"a log grew to {size} bytes")
         for connection in (*idle, busy):
@@ -167,10 +250,31 @@ class Siege:
             await connection.socket.close()
 
 
-async def ended(reader: asyncio.StreamReader) -> bool:
+def marks(do: str, length: int, count: int) -> list[dict[str, object]]:
+    """Marks set over all of a page's letters, or taken off them."""
+    return [{"do": do, "from": 1, "to": length, "tag": "b", "attrs": [["id", str(n)]]} for n in range(count)]
+
+
+async def silent(answer: Awaitable[str]) -> bool:
+    """Whether there is no answer for a while."""
+    try:
+        await asyncio.wait_for(answer, 2)
+    except asyncio.TimeoutError:
+        return True
+    return False
+
+
+async def hears(reader: asyncio.StreamReader, text: bytes) -> None:
+    """Until this comes, or the end."""
+    heard = b""
+    while text not in heard and (more := await reader.read(65536)):
+        heard = heard[-len(text):] + more
+
+
+async def ended(reader: asyncio.StreamReader, late: float = LATE) -> bool:
     """Whether the other side ends the connection."""
     try:
-        async with asyncio.timeout(LATE):
+        async with asyncio.timeout(late):
             while await reader.read(65536):
                 pass
     except TimeoutError:
@@ -184,7 +288,7 @@ async def ended(reader: asyncio.StreamReader) -> bool:
 def besieged(program: Path, folder: Path, log: str) -> Iterator[cluster.Server]:
     server = cluster.Server(folder, [
         "--program", str(program), "--log", log, "--programs", str(PROGRAMS), "--memory", str(512 * MEGABYTE), "--waiting",
-        str(32 * MEGABYTE), "--page", str(2 * MEGABYTE), "--most", str(MOST)])
+        str(32 * MEGABYTE), "--page", str(2 * MEGABYTE), "--most", str(MOST), "--share", "0.0001"])
     server.start()
     try:
         server.ready()
@@ -213,7 +317,7 @@ def attack(program: Path) -> None:
     with tempfile.TemporaryDirectory(prefix="vemodel-") as folder:
         with besieged(program, Path(folder), str(Path(folder) / "pages.sqlite")) as server:
             sent = asyncio.run(_attack(server, with_sieges=True))
-    print(f"service: adversary: ok: {sent} messages and 10 sieges, each answered, refused or ended")
+    print(f"service: adversary: ok: {sent} messages and 14 sieges, each answered, refused or ended")
 
 
 def attack_postgres(program: Path) -> None:

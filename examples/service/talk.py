@@ -5,6 +5,7 @@ import asyncio
 from collections.abc import Coroutine
 from typing import Any
 
+from access import Visitor
 from asks import Ask, Change, Request, Rise, Sit
 from page import Page
 from presence import Guest
@@ -19,8 +20,9 @@ class Talk:
     """Lines may be sent ahead of their answers, which come in the order of lines. What is read is answered before the next
     message is looked at, as an answer may be as long as the page."""
 
-    def __init__(self, page: Page, wire: Wire, guest: Guest, may_write: bool) -> None:
-        self._page, self._wire, self._guest, self._may_write = page, wire, guest, may_write
+    def __init__(self, page: Page, wire: Wire, guest: Guest, visitor: Visitor) -> None:
+        self._page, self._wire, self._guest = page, wire, guest
+        self._may_write, self._payer = visitor.writes(page.name), visitor.account or guest.holder
         self._asked: asyncio.Queue[tuple[Line, int, asyncio.Future[Line]]] = asyncio.Queue(UNANSWERED)
         self._answered = asyncio.Event()
 
@@ -64,10 +66,10 @@ class Talk:
         if not isinstance(line, dict) or not isinstance(do, str):
             raise Bad("no line")
         if do in READS:
-            return Ask(holder, line, size)
+            return Ask(holder, self._payer, line, size)
         if do not in CHANGES:
             raise Bad("no command of a client")
-        return Change(holder, number_of(message.get("n")), number_of(message.get("since")), line, size)
+        return Change(holder, self._payer, number_of(message.get("n")), number_of(message.get("since")), line, size)
 
     async def _put(self, name: Line, size: int, answer: asyncio.Future[Line]) -> None:
         self._wire.inward += size

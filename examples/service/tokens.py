@@ -59,7 +59,7 @@ def visitor(request: web.Request) -> Visitor | None:
     if claims is None:
         return None
     return Visitor(claims["name"], partial(matches, claims["read"]), partial(matches, claims["write"]),
-                   claims.get("operates", False))
+                   claims.get("operates", False), claims["name"])
 
 
 def main() -> None:

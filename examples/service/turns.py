@@ -5,7 +5,9 @@ import asyncio
 from dataclasses import dataclass
 
 from asks import Ask, Change, Request
+from costs import Costs
 from cutting import Cutting
+from programs import TURN, Late
 from seating import Seating
 from seats import VIEW, Line, spelled
 from world import Entry, World
@@ -22,11 +24,20 @@ class Part:
     known: Line | None = None
 
 
+class Slow(Exception):
+    """The program ended on a line that takes too long."""
+
+    def __init__(self, request: Ask | Change, why: str) -> None:
+        super().__init__(why)
+        self.request = request
+
+
 class Turn:
-    def __init__(self, world: World, seating: Seating, cutting: Cutting) -> None:
-        self._world, self._seating, self._cutting = world, seating, cutting
+    def __init__(self, world: World, seating: Seating, cutting: Cutting, costs: Costs) -> None:
+        self._world, self._seating, self._cutting, self._costs = world, seating, cutting, costs
         self._parts: list[Part] = []
         self._entries: list[Entry] = []
+        self._senders: list[Ask | Change] = []  # of each entry
         self._highest: dict[str, int] = {}  # the number of each writer's last line in this turn
 
     def takes(self, queued: Queued) -> bool:
@@ -35,7 +46,7 @@ class Turn:
         place = len(self._entries)
         if isinstance(request, Ask):
             site = self._world.seats.writer(request.holder).site
-            self._entries.append(Entry(spelled({**request.line, "site": VIEW if site is None else site})))
+            self._put(request, Entry(spelled({**request.line, "site": VIEW if site is None else site})))
             self._parts.append(Part(request, answer, place))
             return True
         assert isinstance(request, Change)
@@ -55,10 +66,14 @@ class Turn:
         assert site is not None
         self._seating.use(site)
         line = {**change.line, "site": site, "log": {"n": change.n}}
-        self._entries.append(Entry.of(line))
+        self._put(change, Entry.of(line))
         if line["do"] == "send":
             # Where nothing is sent nothing is served, so both can be run at once.
-            self._entries.append(Entry.of({**line, "do": "serve"}))
+            self._put(change, Entry.of({**line, "do": "serve"}))
+
+    def _put(self, sender: Ask | Change, entry: Entry) -> None:
+        self._senders.append(sender)
+        self._entries.append(entry)
 
     def _known(self, change: Change) -> Line | None:
         """The answer to a line that isn't to be run."""
@@ -75,9 +90,18 @@ class Turn:
         return {"n": change.n, "error": "full"} if self._cutting.full else None
 
     async def run(self) -> list[tuple[asyncio.Future[Line], Line]]:
-        """What each is to be answered. All that was accepted is in the log then."""
+        """What each is to be answered. All that was accepted is in the log then. Raises `Slow` where one line took too long, and
+        `Ended` where the program ended otherwise. Each pays for its lines."""
         number = self._world.next
-        replies = await self._world.run(self._entries)
+        try:
+            replies = await self._world.run(self._entries, TURN)
+        except Late as late:
+            if late.by_line or self._senders[0] is self._senders[-1]:
+                raise Slow(self._senders[len(self._world.spent) - 1], str(late)) from late
+            raise
+        finally:
+            for sender, seconds in zip(self._senders, self._world.spent):
+                self._costs.pay(sender.payer, seconds)
         await self._world.keep()
         return [(part.answer, self._told(part, number, replies)) for part in self._parts]
 

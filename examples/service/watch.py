@@ -1,5 +1,5 @@
-"""Ends connections that take more of the server than their part: of time, by half a request or by reading nothing; of memory,
-by what waits for them."""
+"""Ends connections that take more of the server than their part: of time, by half a request, half a message or by reading
+nothing; of memory, by what waits for them."""
 from __future__ import annotations
 
 import asyncio
@@ -19,7 +19,8 @@ PATIENCE = 10.0  # seconds in which a connection has to send its first request, 
 class Seen:
     since: float  # when the connection was first seen; no matter once it has sent a request
     size: int = 0  # bytes that it hadn't taken at the last look
-    stuck: float = math.inf  # since when it takes nothing
+    half: int = 0  # bytes of a message whose rest hadn't come
+    stuck: float = math.inf  # since when it takes nothing, or sends nothing of the rest
 
 
 class Watch:
@@ -47,7 +48,7 @@ class Watch:
     def _end_the_greediest(self) -> None:
         """Where too much waits, connections for which most does are ended."""
         inward = {wire.transport: wire.inward for wire in self._wires}
-        sizes = {connection: seen.size + inward.get(connection.transport, 0) for connection, seen in self._seen.items()}
+        sizes = {connection: seen.size + seen.half + inward.get(connection.transport, 0) for connection, seen in self._seen.items()}
         self.waiting = sum(sizes.values())
         too_much = self.waiting - self._most
         for connection in sorted(sizes, key=lambda connection: -sizes[connection]) if too_much > 0 else ():
@@ -61,11 +62,18 @@ class Watch:
 def look(connection: web.RequestHandler, seen: Seen, now: float) -> None:
     transport = connection.transport
     size = 0 if transport is None else transport.get_write_buffer_size()
-    if size == 0 or size < seen.size:
+    half = half_sent(connection)
+    if size and size >= seen.size or half and half == seen.half:
+        seen.stuck = min(seen.stuck, now)
+    else:
         seen.stuck = math.inf
-    elif seen.stuck == math.inf:
-        seen.stuck = now
-    seen.size = size
+    seen.size, seen.half = size, half
+
+
+def half_sent(connection: web.RequestHandler) -> int:
+    """The bytes that aiohttp holds of a WebSocket's message until it is whole; it tells nobody."""
+    parser = getattr(connection, "_payload_parser", None)
+    return sum(len(getattr(parser, part, b"")) for part in ("_partial", "_frame_payload", "_tail"))
 
 
 def end(connection: web.RequestHandler) -> None:

@@ -10,6 +10,7 @@ from aiohttp import WSMsgType, web
 from seats import Line, spelled
 
 MOST_MESSAGE = 1 << 20  # bytes
+PIECE = 1 << 13  # bytes that are read at once
 HEARTBEAT = 40.0  # seconds until one that says nothing is asked whether it is there
 GOODBYE = 0.1  # seconds that the other side has for ending a talk
 GOING = 1001
@@ -37,6 +38,9 @@ class Wire:
         await self.socket.prepare(request)
         assert isinstance(request.transport, asyncio.Transport)
         self.transport = request.transport
+        # What is read at once is taken apart at once, and meanwhile nobody else has the server.
+        setattr(self.transport, "max_size", PIECE)
+        self.transport.resume_reading()
 
     async def send(self, text: str) -> None:
         await self.socket.send_str(text)
@@ -53,6 +57,8 @@ class Wire:
 
     async def hear(self) -> str | None:
         """The next text; None where the other side has ended. Raises `Bad` where it is none."""
+        # Many that came at once are taken one by one, as others have theirs.
+        await asyncio.sleep(0)
         got = await self.socket.receive()
         if got.type is WSMsgType.TEXT:
             return str(got.data)

@@ -14,11 +14,13 @@ import asyncio
 import json
 from collections.abc import Sequence
 from dataclasses import dataclass
+from itertools import islice
 
 from asks import Limits
+from costs import Costs
 from feed import Feed
 from log import Batch, Log, Lost, Span
-from programs import LOG, TURN, Core, Ended, Programs
+from programs import STEP, Core, Ended, Programs
 from seats import VIEW, Line, Seats, spelled
 
 SPARE = 1 << 20  # bytes that the program is to have room for beside what it is asked, for the service's own lines
@@ -53,6 +55,7 @@ class Shared:
     log: Log
     programs: Programs
     limits: Limits
+    costs: Costs
     lines: int = 0  # that were appended
     bytes: int = 0  # of these
 
@@ -64,9 +67,12 @@ class World:
         self.seats = Seats()
         self.first = self.next = 0
         self.bytes = 0  # of the lines after the newest `open`
+        self.seconds = 0.0  # of a processor, for these
+        self._least = 0  # bytes of the program when it had opened the page
+        self.spent: list[float] = []  # for each entry of the last run, with that on which it ended
         self.newest = asyncio.get_running_loop().time()  # when the newest line came
         # Lines that the program has accepted and the log hasn't, with their replies.
-        self._fresh: list[tuple[Entry, str]] = []
+        self._fresh: list[tuple[Entry, str, float]] = []
         self._core: Core
 
     async def open(self, span: Span) -> None:
@@ -103,28 +109,30 @@ class World:
     async def _read(self) -> None:
         number = self.first
         while number < self.next:
-            rows = await self._log.read(self.name, number)
+            rows = (await self._log.read(self.name, number))[:1 if number == self.first else None]
             if [n for n, _ in rows] != list(range(number, number + len(rows))) or not rows:
                 raise Lost(f"{self.name}: the log has no line {number}")
             entries = [Entry(text, json.loads(text)) for _, text in rows[:self.next - number]]
-            for entry, reply in zip(entries, await self._replies(entries, LOG)):
+            replies = first_ones(entries, await self._core.run_log(texts_of(entries)))
+            for entry, reply, seconds in zip(entries, replies, sums(entries, self._core.spent)):
                 if not reply.startswith("ok"):
                     raise Strange(f"{self.name}: line {number} of its log is answered {reply}")
-                self._note(number, entry, reply)
+                self._note(number, entry, reply, seconds)
                 number += 1
 
-    async def _replies(self, entries: Sequence[Entry], patience: float) -> list[str]:
-        replies = iter(await self._core.run([text for entry in entries for text in entry.texts], patience))
-        return [[next(replies) for _ in entry.texts][0] for entry in entries]
-
-    async def run(self, entries: Sequence[Entry]) -> list[str]:
-        """The replies to these lines. Of those that have something to keep, what was accepted is kept by `keep`."""
-        if self._core.room < sum(len(text.encode()) + 1 for entry in entries for text in entry.texts) + SPARE:
+    async def run(self, entries: Sequence[Entry], times: float = STEP) -> list[str]:
+        """The replies to these lines, which may take so many times of a line together. Of those that have something to keep,
+        what was accepted is kept by `keep`."""
+        texts = texts_of(entries)
+        if self._core.room < sum(len(text.encode()) + 1 for text in texts) + SPARE:
             if self._fresh:
                 await self.keep()
             await self.renew()
-        replies = await self._replies(entries, TURN)
-        self._fresh.extend((entry, reply) for entry, reply in zip(entries, replies)
+        try:
+            replies = first_ones(entries, await self._core.run(texts, times))
+        finally:
+            self.spent = sums(entries, self._core.spent)
+        self._fresh.extend((entry, reply, seconds) for entry, reply, seconds in zip(entries, replies, self.spent)
                            if entry.line is not None and reply.startswith("ok"))
         return replies
 
@@ -143,11 +151,11 @@ class World:
         if not self._fresh:
             return
         number = self.next
-        texts = [entry.text for entry, _ in self._fresh]
+        texts = [entry.text for entry, _, _ in self._fresh]
         first = self.first if first is None else first
         await self._log.append(Batch(self.name, number, texts, first))
-        for place, (entry, reply) in enumerate(self._fresh):
-            self._note(number + place, entry, reply)
+        for place, kept in enumerate(self._fresh):
+            self._note(number + place, *kept)
         self._fresh.clear()
         self.first, self.next = first, number + len(texts)
         self.newest = asyncio.get_running_loop().time()
@@ -155,10 +163,19 @@ class World:
         self._shared.bytes += sum(map(len, texts))
         self.feed.put(number, texts)
 
-    def _note(self, number: int, entry: Entry, reply: str) -> None:
+    def _note(self, number: int, entry: Entry, reply: str, seconds: float) -> None:
         assert entry.line is not None
         self.seats.note(number, entry.line, reply)
-        self.bytes = 0 if entry.line["do"] == "open" else self.bytes + len(entry.text.encode()) + 1
+        if entry.line["do"] == "open":
+            self.bytes, self.seconds, self._least = 0, 0.0, self._core.memory
+        else:
+            self.bytes += len(entry.text.encode()) + 1
+            self.seconds += seconds
+
+    @property
+    def growth(self) -> int:
+        """The bytes that its program took since it opened the page."""
+        return self._core.memory - self._least
 
     @property
     def load(self) -> int:
@@ -170,7 +187,7 @@ class World:
         the new one has opened the page."""
         core = await self._programs.start()
         try:
-            [reply] = await core.run([spelled(page)], LOG)
+            reply = await core.open(spelled(page))
             refused = not reply.startswith("ok")
         except BaseException:
             await core.close()
@@ -180,5 +197,22 @@ class World:
             return False
         await self._core.close()
         self._core = core
-        self._fresh.append((Entry.of(page), reply))
+        self._fresh.append((Entry.of(page), reply, 0))
         return True
+
+
+def texts_of(entries: Sequence[Entry]) -> list[str]:
+    return [text for entry in entries for text in entry.texts]
+
+
+def first_ones(entries: Sequence[Entry], replies: Sequence[str]) -> list[str]:
+    """Of the replies to their texts the first one for each."""
+    all_of_them = iter(replies)
+    return [[next(all_of_them) for _ in entry.texts][0] for entry in entries]
+
+
+def sums(entries: Sequence[Entry], spent: Sequence[float]) -> list[float]:
+    """What each took, of what its texts did, up to the one on which the program ended."""
+    all_of_it = iter(spent)
+    parts = (list(islice(all_of_it, len(entry.texts))) for entry in entries)
+    return [sum(part) for part in parts if part]

@@ -1,4 +1,5 @@
-/* Each call at its edges: handles that are closed, open and open again, and buffers with less room than the reply needs. */
+/* Each call at its edges: handles that are closed, open and open again, and buffers with less room than the reply needs. And the library's
+   version, which is VERSION. */
 #include "vemodel.h"
 #include <stdio.h>
 #include <string.h>
@@ -92,5 +93,6 @@ int main(void)
     open_handles();
     rooms();
     moved();
+    CHECK(vemodel_version() == VERSION);
     return failed;
 }

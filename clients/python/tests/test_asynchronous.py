@@ -45,6 +45,13 @@ class Asynchronous(unittest.IsolatedAsyncioTestCase):
                 await program.run(["{"])
             self.assertEqual(await program.close(), -9)
 
+    async def test_a_program_that_is_dropped(self) -> None:
+        program = await AsyncProgram.start(find())
+        await program.run(["{"])
+        process = program._process
+        del program
+        self.assertEqual(await asyncio.wait_for(process.wait(), 10), -9)
+
     async def test_the_end(self) -> None:
         with program_of("read -r line; echo ok 1; exit 6") as path:
             program = await AsyncProgram.start(path)

@@ -89,6 +89,15 @@ class Calls(OverProgram):
         with self.assertRaises(TimedOut):
             self.core.open(LONG)
 
+    def test_odd_times(self) -> None:
+        for long in (float("inf"), 1e300):
+            self.assertEqual(self.core.line("{", timeout=long), "no bad_json")
+        with self.assertRaises(ValueError):
+            self.core.line("{", timeout=float("nan"))
+        self.assertEqual(self.core.line("{"), "no bad_json")
+        with self.assertRaises(TimedOut):
+            self.core.open(LONG, timeout=-1)
+
     def test_a_call_from_within_a_call(self) -> None:
         said: list[object] = []
 

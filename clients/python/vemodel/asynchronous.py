@@ -2,8 +2,11 @@
 from __future__ import annotations
 
 import asyncio
+import os
+import weakref
+from contextlib import suppress
 from copy import copy
-from collections.abc import Sequence
+from collections.abc import Callable, Sequence
 
 from .errors import Ended, Interrupted, TimedOut
 from .members import Seconds
@@ -19,6 +22,7 @@ class AsyncProgram:
     def __init__(self, process: asyncio.subprocess.Process) -> None:
         assert process.stdin and process.stdout
         self._process = process
+        self._finalize = weakref.finalize(self, _end, process, os.getpid())
         self._lines, self._replies = process.stdin, process.stdout
         self._turn = asyncio.Lock()
         self._written = 0
@@ -42,9 +46,13 @@ class AsyncProgram:
         """How many bytes of lines it would still read."""
         return MOST_BYTES - self._written
 
-    async def run(self, lines: Sequence[str], timeout: Seconds = None) -> list[str]:
-        """Returns the raw replies to raw lines. They may take so many seconds from the run's turn on. Raises Ended, TimedOut, and ValueError
-        where a line holds a newline."""
+    @property
+    def process_id(self) -> int:
+        return self._process.pid
+
+    async def run(self, lines: Sequence[str], timeout: Seconds = None, note: Callable[[str], object] | None = None) -> list[str]:
+        """Returns the raw replies to raw lines. They may take so many seconds from the run's turn on. `note` is called with each one as it
+        comes. Raises Ended, TimedOut, and ValueError where a line holds a newline."""
         if any("\n" in line for line in lines):
             raise ValueError("a line holds no newline: in JSON it is written \\n")
         data = "".join(line + "\n" for line in lines).encode()
@@ -53,7 +61,7 @@ class AsyncProgram:
                 raise copy(self._failure)
             self._written += len(data)
             try:
-                return await asyncio.wait_for(self._exchange(data, len(lines)), timeout)
+                return await asyncio.wait_for(self._exchange(data, len(lines), note), timeout)
             except asyncio.TimeoutError:
                 self._give_up(Interrupted())
                 raise TimedOut from None
@@ -68,16 +76,15 @@ class AsyncProgram:
 
     def _give_up(self, failure: Ended) -> None:
         # asyncio loses the status of a process that is killed twice.
-        if self._failure is None and self._process.returncode is None:
-            self._process.kill()
+        self._finalize()
         self._failure = self._failure or failure
         if not self._lines.is_closing():
             self._lines.transport.abort()  # with what isn't written yet
 
-    async def _exchange(self, data: bytes, count: int) -> list[str]:
+    async def _exchange(self, data: bytes, count: int, note: Callable[[str], object] | None) -> list[str]:
         """Writes lines while it reads their replies, since either pipe may fill."""
         try:
-            _, replies = await asyncio.gather(self._write(data), self._read(count))
+            _, replies = await asyncio.gather(self._write(data), self._read(count, note))
         except ConnectionError:
             raise Ended(await self._process.wait()) from None
         return replies
@@ -86,11 +93,20 @@ class AsyncProgram:
         self._lines.write(data)
         await self._lines.drain()
 
-    async def _read(self, count: int) -> list[str]:
+    async def _read(self, count: int, note: Callable[[str], object] | None) -> list[str]:
         replies = []
         for _ in range(count):
             reply = await self._replies.readline()
             if not reply.endswith(b"\n"):
                 raise ConnectionResetError
             replies.append(reply[:-1].decode())
+            if note is not None:
+                note(replies[-1])
         return replies
+
+
+def _end(process: asyncio.subprocess.Process, owner: int) -> None:
+    """Ends a program that nobody asks any more. It isn't that of a process which was forked from its owner."""
+    if process.returncode is None and os.getpid() == owner:
+        with suppress(ProcessLookupError):
+            process.kill()

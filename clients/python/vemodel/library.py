@@ -87,7 +87,7 @@ class Library(World):
         self._aside = threading.Thread(target=self._answer_aside, args=(lines, answers), daemon=True)
         self._aside.start()
         try:
-            answer = answers.get(timeout=min(timeout, threading.TIMEOUT_MAX))
+            answer = answers.get(timeout=timeout)
         except Empty:
             raise TimedOut from None
         if isinstance(answer, Exception):

@@ -14,7 +14,7 @@ from typing import Union
 
 from .errors import Ended, TimedOut
 from .members import Seconds
-from .world import World
+from .world import World, bounded
 
 StrPath = Union[str, "os.PathLike[str]"]
 #: A run of the program reads at most so many bytes of lines, and ends after them.
@@ -66,7 +66,8 @@ class Program(World):
 
     def ask(self, lines: bytes, timeout: Seconds = None) -> bytes:
         """Returns the replies to whole lines, all with their newlines. Raises as `steps` does."""
-        return self._in_turn(lambda: self._replies_to(lines, timeout))
+        seconds = bounded(timeout)
+        return self._in_turn(lambda: self._replies_to(lines, seconds))
 
     def _exchange(self, lines: Sequence[bytes], timeout: Seconds) -> list[bytes]:
         return self._replies_to(b"\n".join([*lines, b""]), timeout).split(b"\n")[:-1]

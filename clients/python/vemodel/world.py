@@ -12,6 +12,7 @@ from .errors import Ended, Interrupted, TimedOut
 from .members import Seconds
 
 T = TypeVar("T")
+MOST_SECONDS = 1_000_000.0  # which every system can wait
 
 
 class World(ABC):
@@ -35,7 +36,8 @@ class World(ABC):
         call's turn on. Raises ValueError where a line holds a newline, Ended, and TimedOut."""
         if b"\n" in b"".join(lines):
             raise ValueError("a line holds no newline: in JSON it is written \\n")
-        return self._in_turn(lambda: self._exchange(lines, timeout))
+        seconds = bounded(timeout)
+        return self._in_turn(lambda: self._exchange(lines, seconds))
 
     def close(self) -> int | None:
         """Ends the world, and returns its status. Closing it again does nothing."""
@@ -80,3 +82,12 @@ class World(ABC):
     @abstractmethod
     def _close(self) -> int | None:
         """Ends what answers, where no call is under way, and returns its status. It may have ended before."""
+
+
+def bounded(timeout: Seconds) -> Seconds:
+    """Returns the time that is waited. Raises ValueError where it is no number."""
+    if timeout is None:
+        return None
+    if timeout != timeout:
+        raise ValueError("a timeout is a number of seconds")
+    return min(max(timeout, 0), MOST_SECONDS)

@@ -44,6 +44,24 @@ test("a memory that can't grow", () => {
   assert.ok(world.size <= MOST * PAGE);
 });
 
+test("a memory of over 2 GiB", () => {
+  const { Instance } = WebAssembly;
+  let room;
+  WebAssembly.Instance = function (it) {
+    const made = new Instance(it);
+    room = made.exports.vemodel_room;
+    return made;
+  };
+  const world = new World(module);
+  WebAssembly.Instance = Instance;
+  assert.ok(room(2300n << 20n)); // nobody writes there, so it takes addresses alone
+  for (const page of [opening(10), opening(10_000)]) { // a line behind it, too
+    assert.match(world.line(page), /^ok /);
+    assert.match(world.line('{"do":"text","at":1,"text":"é"}'), /^ok /);
+    assert.match(world.line('{"do":"html"}'), /^ok "<p>éSome/);
+  }
+});
+
 // The module with a memory of at most so many pages of 64 KiB.
 function limited(module, most) {
   const MEMORY = 5;

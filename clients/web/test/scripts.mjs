@@ -1,4 +1,4 @@
-// Asks a module all scripts of examples/, and of the folders that are given, and compares the replies byte for byte.
+// Asks a module all scripts of examples/, and of the folders that are given, and compares the replies byte for byte; and its version.
 // usage: node clients/web/test/scripts.mjs MODULE [FOLDER..]
 import { readFileSync } from "node:fs";
 import { World, compile } from "../world.js";
@@ -13,6 +13,13 @@ for (const folder of [EXAMPLES, ...folders]) {
     count += 1;
     lineCount += script.replies.length;
   }
+}
+const parts = readFileSync(new URL("../../../VERSION", import.meta.url), "utf8").split(".");
+const wanted = parts.reduce((number, part) => 256 * number + Number(part), 0);
+const version = new WebAssembly.Instance(module).exports.vemodel_version();
+if (version !== wanted) {
+  console.log(`scripts: the module's version is ${version}, and not ${wanted}`);
+  process.exit(1);
 }
 console.log(`scripts: ${count} of ${lineCount} lines, byte for byte: ok`);
 

@@ -20,4 +20,6 @@ pub mod NestedNodes
 pub mod StandingBlocks
 pub mod BodyPlaces
 pub mod KeptBackLemmas
+pub mod StandingBytes
 mod KeptExamples
+mod BytesExamples

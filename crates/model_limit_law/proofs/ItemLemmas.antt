@@ -22,7 +22,7 @@ use Rattle.model_page.specs.Pieces.{Owner, Progress}
 use Rattle.model_page_law.proofs.BodyUtf8.{body_utf8}
 use Rattle.model_page_law.proofs.ShapeLemmas.{Fine-made_of, Fine-run_closed, Shaped}
 use Rattle.model_limit_law.specs.Items.{FirstItemIsOver, OfKinds, OfMarks, first_over, which}
-use Rattle.model_limit_law.proofs.BodyLemmas.{AllOwnUtf8}
+use Rattle.model_page_law.proofs.OwnersUtf8.{AllOwnUtf8}
 use Rattle.model_limit_law.proofs.OrderLemmas.{over_append, which_or}
 use Rattle.model_limit_law.proofs.PageLemmas.{body_texted, forest_texted, page_owns}
 use Rattle.model_limit_law.proofs.ToldLemmas.{told_flow}

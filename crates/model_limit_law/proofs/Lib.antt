@@ -1,8 +1,6 @@
 pub mod FirstLemmas
 pub mod PlaceLemmas
 pub mod CountLemmas
-pub mod AttrLemmas
-pub mod BodyLemmas
 pub mod PageLemmas
 mod CountExamples
 mod FirstExamples

@@ -32,7 +32,7 @@ use Rattle.model_limit_law.specs.Counted.{mark_places, openings}
 use Rattle.model_limit_law.specs.First.{FirstIn, FirstInBodies, FirstInBody, FirstInOpened, FirstInPage, FirstIsRefused, FragmentsAtFirst, OpeningTellsLimits, RefusedIsFirst}
 use Rattle.model_limit_law.proofs.FirstLemmas.{deep_at-first, first_deep, first_is_limit, first_marked, limit_is_first, limit_same, marked_found, marked_only, one_limit}
 use Rattle.model_limit_law.proofs.PlaceLemmas.{even_in, marked_at-places}
-use Rattle.model_limit_law.proofs.BodyLemmas.{AllOwnUtf8, flow_owns}
+use Rattle.model_page_law.proofs.OwnersUtf8.{AllOwnUtf8, flow_owns}
 
 -- ---- texts have characters
 

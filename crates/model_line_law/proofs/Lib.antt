@@ -1,6 +1,3 @@
-mod StringLemmas
-mod LexLemmas
-mod TreeLemmas
 pub mod LineLemmas
 mod TextExamples
 pub mod PageLemmas

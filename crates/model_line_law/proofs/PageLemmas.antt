@@ -34,7 +34,7 @@ use Rattle.model_world_law.specs.Reached.{IsReached, WorldReached}
 use Rattle.model_world_law.proofs.ChangeLemmas.{pages_are_sound}
 use Rattle.model_world_law.proofs.ChangeStand.{pages_stand}
 use Rattle.model_world_law.proofs.ReachLemmas as reach
-use Rattle.model_line_law.specs.Texts.{AllStrings, AllInMembers}
+use Rattle.model_page_law.specs.Strings.{AllStrings, AllInMembers}
 use Rattle.model_line_law.specs.Pages.{OpenedIsUtf8, OpenedItemsStand, ItemsStandAfterLines, UneditedPageIsWrittenBack}
 use Rattle.model_line_law.proofs.LineLemmas.{line_utf8}
 

@@ -6,7 +6,7 @@ use Rattle.serde_json.proofs.OnLiterals.{serde_json_on_literals}
 use Rattle.model_world.specs.declared.command.Command.TheVariants.{OpenPage}
 use Rattle.model_world.specs.Values.{line_json}
 use Rattle.model_world.specs.Commands.{command}
-use Rattle.model_line_law.specs.Texts.{AllStrings}
+use Rattle.model_page_law.specs.Strings.{AllStrings}
 
 -- a name, an array and an object inside
 sample : Data

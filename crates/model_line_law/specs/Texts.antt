@@ -1,25 +1,8 @@
 -- The strings of a line that is read as JSON.
 use Rattle.std.specs.Prelude.{◌≡◌, ℕ, List, Some, IsUtf8}
-use Rattle.serde_json.specs.Data.{Data, null, boolean, number, string, array, object, Items, no_items, item, Members, no_members, member}
+use Rattle.serde_json.specs.Data.{Data}
 use Rattle.model_world.specs.Values.{line_json}
-
--- each string in a value, and each name of a member, passes
-abbrev mutual
-  pub AllStrings : (List ℕ → Type 0) → Data → Type 0
-  AllStrings P null = Unit {0}
-  AllStrings P (boolean b) = Unit {0}
-  AllStrings P (number n) = Unit {0}
-  AllStrings P (string s) = P s
-  AllStrings P (array ds) = AllInItems P ds
-  AllStrings P (object ms) = AllInMembers P ms
-
-  pub AllInItems : (List ℕ → Type 0) → Items → Type 0
-  AllInItems P no_items = Unit {0}
-  AllInItems P (item d ds) = AllStrings P d × AllInItems P ds
-
-  pub AllInMembers : (List ℕ → Type 0) → Members → Type 0
-  AllInMembers P no_members = Unit {0}
-  AllInMembers P (member k d ms) = P k × AllStrings P d × AllInMembers P ms
+use Rattle.model_page_law.specs.Strings.{AllStrings}
 
 -- A line that is not UTF-8 is not read; the strings of one that is are UTF-8.
 abbrev pub StringsAreUtf8 : Type 0

@@ -45,6 +45,11 @@ pub mod OriginPlaces
 pub mod RangeLemmas
 pub mod MadeRefers
 pub mod PageRefers
+mod StringLemmas
+mod LexLemmas
+mod TreeLemmas
+pub mod ReadUtf8
+pub mod OwnersUtf8
 pub mod EditsRefer
 pub mod BodyReplaced
 pub mod ReferenceLemmas

@@ -55,7 +55,7 @@ after_byte a b c small u =
 
 -- ---- attributes
 
-abbrev AttrsUtf8 : List Spelled → Type 0
+abbrev pub AttrsUtf8 : List Spelled → Type 0
 AttrsUtf8 [] = Unit {0}
 AttrsUtf8 (a ∷ attrs) = IsUtf8 a.name × IsUtf8 a.value × AttrsUtf8 attrs
 
@@ -73,7 +73,7 @@ regrouped before name value rest quote = simp append_assoc
 named : (before name value rest : List ℕ) (quote : ℕ) → before ++ (((32 ∷ name ++ 61 ∷ quote ∷ value ++ quote ∷ []) ++ rest)) ≡ before ++ (32 ∷ (name ++ (61 ∷ (quote ∷ (value ++ (quote ∷ rest))))))
 named before name value rest quote = simp append_assoc
 
-attrs_utf8 : (attrs : List Spelled) (before rest : List ℕ) → list_all is_attr attrs ≡ true → IsUtf8 (before ++ (flat_map attr_text attrs ++ rest)) → AttrsUtf8 attrs
+pub attrs_utf8 : (attrs : List Spelled) (before rest : List ℕ) → list_all is_attr attrs ≡ true → IsUtf8 (before ++ (flat_map attr_text attrs ++ rest)) → AttrsUtf8 attrs
 attrs_utf8 [] before rest h u = tt
 attrs_utf8 (a ∷ attrs) before rest h u =
     let p = and_parts (is_attr a) (list_all is_attr attrs) h in
@@ -133,9 +133,9 @@ group-refers (Element name attrs children (Element n a inner rest)) u w around r
 all_right : (a f g c e r : List ℕ) → ((((a ++ f) ++ g) ++ c) ++ e) ++ r ≡ a ++ (f ++ (g ++ (c ++ (e ++ r))))
 all_right a f g c e r = simp append_assoc
 
-element-attrs : (room : ℕ) (name : List ℕ) (attrs : List Spelled) (children : Forest) → is_forest room (Element name attrs children Nothing) ≡ true → IsUtf8 (spelling (Element name attrs children Nothing)) → AttrsUtf8 attrs
-element-attrs zero name attrs children h u = cc
-element-attrs (suc room) name attrs children h u =
+pub element_attrs : (room : ℕ) (name : List ℕ) (attrs : List Spelled) (children : Forest) → is_forest room (Element name attrs children Nothing) ≡ true → IsUtf8 (spelling (Element name attrs children Nothing)) → AttrsUtf8 attrs
+element_attrs zero name attrs children h u = cc
+element_attrs (suc room) name attrs children h u =
     let p = and_parts (not (is_void name) && not (is_raw name) && is_start name attrs false && is_forest room children) (is_forest (suc room) Nothing) h in
     let q = and_parts (not (is_void name) && not (is_raw name) && is_start name attrs false) (is_forest room children) p.0 in
     let s = and_parts (not (is_void name) && not (is_raw name)) (is_start name attrs false) q.0 in
@@ -144,7 +144,7 @@ element-attrs (suc room) name attrs children h u =
     (subst IsUtf8 (all_right (60 ∷ name) (flat_map attr_text attrs) (codes ">") (spelling children) (end_text name) []) u)
 
 group-attrs : (room : ℕ) (nodes : Forest) → is_forest room nodes ≡ true → IsUtf8 (spelling nodes) → (name : List ℕ) (attrs : List Spelled) (children : Forest) → nodes ≡ Element name attrs children Nothing → AttrsUtf8 attrs
-group-attrs room nodes h u name attrs children e = element-attrs room name attrs children (ap (is_forest room) (sym e) ∙ h) (subst (λ n. IsUtf8 (spelling n)) e u)
+group-attrs room nodes h u name attrs children e = element_attrs room name attrs children (ap (is_forest room) (sym e) ∙ h) (subst (λ n. IsUtf8 (spelling n)) e u)
 
 groups-refer : (room : ℕ) (parts : Parts) → Faithful room parts → AllUtf8 parts → GroupsRefer true parts
 groups-refer room Ended f u = tt

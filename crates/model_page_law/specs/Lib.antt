@@ -9,3 +9,4 @@ pub mod Spans
 pub mod Composed
 pub mod Replaced
 pub mod WrittenReference
+pub mod Strings

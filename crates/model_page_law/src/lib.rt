@@ -16,6 +16,9 @@
 //! - `Formed`, `ReadBack`, `WritesFresh`, `Replaced` (`fresh_is_read_back`, `writes_fresh`,
 //!   `whole_range_is_fresh`, `written_page_opens`): what is written anew is read back.
 //!
+//! `Strings` says that each string of a value of JSON passes a test, as what is read of UTF-8 does: so
+//! the bodies of a page that is UTF-8 are UTF-8 (`proofs/OwnersUtf8.antt`).
+//!
 //! A reference whose body no forest of 200 levels spells is written as an element that isn't
 //! editable. The law of written references tells both cases apart.
 #![tactic(auto)]

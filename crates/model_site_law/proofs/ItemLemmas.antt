@@ -1,10 +1,11 @@
--- A property of each item that is opened or inserted holds of each item of every list. Transactions
--- that are undone, joined and taken back insert nothing else.
+-- A property of each item that is opened or inserted, and that setting attributes keeps, holds of
+-- each item of every list. Transactions that are undone, joined and taken back put in nothing else.
 use Rattle.std.specs.List.{AllByRecursion}
 use Rattle.std.proofs.Common.{◌≡◌, ℕ, zero, suc, ◌<◌, ◌==◌, Bool, true, false, if◌then◌else◌, List, [], ◌∷◌, ◌++◌, length, map, take, drop, replicate, slice_get, Option, Some, None, Result, Ok, Err, refl, sym, ap, ◌∙◌, subst, arith, option_map}
 use Rattle.std.proofs.lemmas.List.{append-nil, take-append-drop, drop-map, length-map}
 use Rattle.model_items.specs.declared.plain_item.PlainItem.{PlainItem}
-use Rattle.model_change.specs.Attributes.{AttrChange, change_back, item_changed}
+use Rattle.ve_base.specs.declared.attrs.Attr.{Attr}
+use Rattle.model_change.specs.Attributes.{AttrChange, allows, change_back, item_changed}
 use Rattle.model_change.specs.Fault.{first_allows}
 use Rattle.model_change.specs.Inverse.{attribute_ops, inverse, inverse_after}
 use Rattle.model_change.specs.Join.{RangeConflict, join_list}
@@ -21,7 +22,7 @@ use Rattle.model_site.specs.Replica.{Replica, all_filled}
 use Rattle.model_site.specs.Session.{Ack, Foreign, Member, Session, SiteFeed, accepted_of, all_fed, feed_for, foreign_feed, joining, put_member, serve_first, started, take_first}
 use Rattle.model_site.specs.Site.{Site, Submission, entries_of, init_and_last, with_undone, pending, redo, redo_first, revoke_by, send, undo, undo_last, with_entry, with_selection, with_told, with_entry_against, first_hint, hinted_entries}
 use Rattle.model_site.specs.Take.{parcel_entries, take_ack, take_entry, take_foreign}
-use Rattle.model_site_law.specs.ItemLaws.{AllInsert, AllPass, Inserts, ItemsKeep, RevocationsKeep, SettingKeeps}
+use Rattle.model_site_law.specs.ItemLaws.{AllPass, AllPutIn, AttrsPass, Inserts, ItemsKeep, PutsIn, RevocationsKeep, SettingKeeps, all_set, any_attr, attr_of}
 use Rattle.model_site_law.specs.LiveLaws.{RunFrom, list_before, own_of}
 use Rattle.model_site_law.specs.MayHappen.{AllMayHappen, MayHappen}
 use Rattle.model_site_law.specs.Protocol.{Every, MemberHolds, SessionHolds}
@@ -32,6 +33,7 @@ use Rattle.model_site_law.proofs.MemberLemmas.{sends}
 use Rattle.model_site_law.proofs.ReplayLemmas.{parcels-append, parcels-drop, parcels-noted, parcels-take, flattened-at}
 use Rattle.model_site_law.proofs.ServeLemmas.{event_holds, start_holds}
 use Rattle.model_site_law.proofs.SessionLemmas.{every_get, every_put, seen_runs}
+use Rattle.model_site_law.proofs.SetLemmas.{join_lists_set_the_same, set-filled}
 use Rattle.model_site_law.proofs.SiteLemmas.{parted_is, with_redone, hinted_are, known_run}
 
 -- ---- all of a list
@@ -51,21 +53,34 @@ runs-parts : (ts us : List Transaction) (items : List PlainItem) → AllRun (ts 
 runs-parts [] us items r = (tt, r)
 runs-parts (t ∷ ts) us items r = let p = runs-parts ts us (edited t items) r.1 in ((r.0, p.0), p.1)
 
-module _ (test : PlainItem → Bool) (keeps : SettingKeeps test) where
+module _ (test : PlainItem → Bool) (sets : Attr → Bool) (keeps : SettingKeeps test sets) where
   abbrev pub P : PlainItem → Type 0
   P item = test item ≡ true
 
   abbrev pub All : List PlainItem → Type 0
   All items = AllByRecursion P items
 
+  abbrev pub Attrs : List Attr → Type 0
+  Attrs attrs = AttrsPass sets attrs
+
   abbrev pub Ins : Transaction → Type 0
-  Ins t = AllByRecursion P (all_inserted t)
+  Ins t = PutsIn test sets t
+
+  abbrev pub Sets : AttrChange → Type 0
+  Sets c = Attrs (attr_of c.name c.to)
 
   -- ---- one transaction
 
-  on_first_all : (c : AttrChange) (items : List PlainItem) → first_allows c items ≡ true → All items → All (on_first (item_changed c) items)
-  on_first_all c [] h p = cc
-  on_first_all c (item ∷ items) h p = (keeps c item h p.0, p.1)
+  on_first_all : (c : AttrChange) (items : List PlainItem) → first_allows c items ≡ true → Sets c → All items → All (on_first (item_changed c) items)
+  on_first_all c [] h i p = cc
+  on_first_all c (item ∷ items) h i p = (keeps.stays c item h i p.0, p.1)
+
+  first_was : (c : AttrChange) (items : List PlainItem) → first_allows c items ≡ true → All items → Sets (change_back c)
+  first_was c [] h p = cc
+  first_was c (item ∷ items) h p = keeps.was c item h p.0
+
+  set_parts : (c : AttrChange) (ops : Transaction) → Attrs (all_set (Attribute c ∷ ops)) → Sets c × Attrs (all_set ops)
+  set_parts c ops i = all-parts (λ a. sets a ≡ true) (attr_of c.name c.to) (all_set ops) i
 
   pub edited_all : (t : Transaction) (items : List PlainItem) → Fits t items → Ins t → All items → All (edited t items)
   edited_all [] items f i p = p
@@ -73,78 +88,88 @@ module _ (test : PlainItem → Bool) (keeps : SettingKeeps test) where
       let q = all-cut P count items p in
       all-append P (take count items) (edited ops (drop count items)) q.0 (edited_all ops (drop count items) f i q.1)
   edited_all (Replace gone new ∷ ops) items f i p =
-      let q = all-parts P new (all_inserted ops) i in
-      all-append P new (edited ops (drop (length gone) items)) q.0 (edited_all ops (drop (length gone) items) f.1 q.1 (all-cut P (length gone) items p).1)
-  edited_all (Attribute c ∷ ops) items f i p = edited_all ops (on_first (item_changed c) items) f.1 i (on_first_all c items f.0 p)
+      let q = all-parts P new (all_inserted ops) i.0 in
+      all-append P new (edited ops (drop (length gone) items)) q.0 (edited_all ops (drop (length gone) items) f.1 (q.1, i.1) (all-cut P (length gone) items p).1)
+  edited_all (Attribute c ∷ ops) items f i p =
+      let q = set_parts c ops i.1 in
+      edited_all ops (on_first (item_changed c) items) f.1 (i.0, q.1) (on_first_all c items f.0 q.0 p)
 
-  ops_insert : (changes : List AttrChange) (ops : Transaction) → Ins ops → Ins (attribute_ops changes ++ ops)
-  ops_insert [] ops i = i
-  ops_insert (c ∷ changes) ops i = ops_insert changes ops i
+  ops_insert : (changes : List AttrChange) (ops : Transaction) → AllByRecursion Sets changes → Ins ops → Ins (attribute_ops changes ++ ops)
+  ops_insert [] ops a i = i
+  ops_insert (c ∷ changes) ops a i =
+      let q = ops_insert changes ops a.1 i in
+      (q.0, all-append (λ a. sets a ≡ true) (attr_of c.name c.to) (all_set (attribute_ops changes ++ ops)) a.0 q.1)
 
-  inverse_inserts : (ops : Transaction) (changes : List AttrChange) (items : List PlainItem) → Fits ops items → All items → Ins (inverse_after changes ops)
-  inverse_inserts [] changes items f p = subst Ins (append-nil (attribute_ops changes)) (ops_insert changes [] tt)
-  inverse_inserts (Retain count ∷ ops) changes items f p =
-      ops_insert changes (Retain count ∷ inverse_after [] ops) (inverse_inserts ops [] (drop count items) f (all-cut P count items p).1)
-  inverse_inserts (Replace gone new ∷ ops) changes items f p =
+  inverse_inserts : (ops : Transaction) (changes : List AttrChange) (items : List PlainItem) → AllByRecursion Sets changes → Fits ops items → Attrs (all_set ops) → All items →
+      Ins (inverse_after changes ops)
+  inverse_inserts [] changes items a f i p = subst Ins (append-nil (attribute_ops changes)) (ops_insert changes [] a (tt, tt))
+  inverse_inserts (Retain count ∷ ops) changes items a f i p =
+      ops_insert changes (Retain count ∷ inverse_after [] ops) a (inverse_inserts ops [] (drop count items) tt f i (all-cut P count items p).1)
+  inverse_inserts (Replace gone new ∷ ops) changes items a f i p =
       let q = all-parts P gone (drop (length gone) items) (subst All f.0 p) in
-      ops_insert changes (Replace new gone ∷ inverse_after [] ops)
-      (all-append P gone (all_inserted (inverse_after [] ops)) q.0 (inverse_inserts ops [] (drop (length gone) items) f.1 q.1))
-  inverse_inserts (Attribute c ∷ ops) changes items f p = inverse_inserts ops (change_back c ∷ changes) (on_first (item_changed c) items) f.1 (on_first_all c items f.0 p)
+      let r = inverse_inserts ops [] (drop (length gone) items) tt f.1 i q.1 in
+      ops_insert changes (Replace new gone ∷ inverse_after [] ops) a (all-append P gone (all_inserted (inverse_after [] ops)) q.0 r.0, r.1)
+  inverse_inserts (Attribute c ∷ ops) changes items a f i p =
+      let q = set_parts c ops i in
+      inverse_inserts ops (change_back c ∷ changes) (on_first (item_changed c) items) (first_was c items f.0 p, a) f.1 q.1 (on_first_all c items f.0 q.0 p)
 
   -- ---- several
 
-  replay_all : (ts : List Transaction) (items : List PlainItem) → AllRun ts items → AllInsert test ts → All items → All (replay ts items)
+  replay_all : (ts : List Transaction) (items : List PlainItem) → AllRun ts items → AllPutIn test sets ts → All items → All (replay ts items)
   replay_all [] items runs i p = p
   replay_all (t ∷ ts) items runs i p =
       replay_all ts (edited t items) runs.1 i.1 (edited_all t items (parts_of_Applies t items runs.0.applies).1 i.0 p)
 
-  reversal_inserts : (ts : List Transaction) (items : List PlainItem) → AllRun ts items → AllInsert test ts → All items → AllInsert test (reversal ts)
+  reversal_inserts : (ts : List Transaction) (items : List PlainItem) → AllRun ts items → AllPutIn test sets ts → All items → AllPutIn test sets (reversal ts)
   reversal_inserts [] items runs i p = tt
   reversal_inserts (t ∷ ts) items runs i p =
       let fits = (parts_of_Applies t items runs.0.applies).1 in
-      all-append Ins (reversal ts) (inverse t ∷ []) (reversal_inserts ts (edited t items) runs.1 i.1 (edited_all t items fits i.0 p)) (inverse_inserts t [] items fits p, tt)
+      all-append Ins (reversal ts) (inverse t ∷ []) (reversal_inserts ts (edited t items) runs.1 i.1 (edited_all t items fits i.0 p)) (inverse_inserts t [] items tt fits i.0.1 p, tt)
 
-  filled_insert : (ts : List Transaction) (items : List PlainItem) → AllInsert test ts → AllInsert test (all_filled ts items)
+  filled_insert : (ts : List Transaction) (items : List PlainItem) → AllPutIn test sets ts → AllPutIn test sets (all_filled ts items)
   filled_insert [] items i = tt
-  filled_insert (t ∷ ts) items i = (subst All (sym (inserted-filled t items)) i.0, filled_insert ts (edited t items) i.1)
+  filled_insert (t ∷ ts) items i =
+      ((subst All (sym (inserted-filled t items)) i.0.0, subst Attrs (sym (set-filled t items)) i.0.1), filled_insert ts (edited t items) i.1)
 
-  -- what is inserted, list by list
-  from_lists : (ts : List Transaction) → AllByRecursion All (map all_inserted ts) → AllInsert test ts
-  from_lists [] i = tt
-  from_lists (t ∷ ts) i = (i.0, from_lists ts i.1)
+  -- what is inserted and set, list by list
+  from_lists : (ts : List Transaction) → AllByRecursion All (map all_inserted ts) → AllByRecursion Attrs (map all_set ts) → AllPutIn test sets ts
+  from_lists [] i j = tt
+  from_lists (t ∷ ts) i j = ((i.0, j.0), from_lists ts i.1 j.1)
 
-  to_lists : (ts : List Transaction) → AllInsert test ts → AllByRecursion All (map all_inserted ts)
-  to_lists [] i = tt
-  to_lists (t ∷ ts) i = (i.0, to_lists ts i.1)
+  to_lists : (ts : List Transaction) → AllPutIn test sets ts → AllByRecursion All (map all_inserted ts) × AllByRecursion Attrs (map all_set ts)
+  to_lists [] i = (tt, tt)
+  to_lists (t ∷ ts) i = let q = to_lists ts i.1 in ((i.0.0, q.0), (i.0.1, q.1))
+
+  as_they_did : (ts us : List Transaction) → map all_inserted us ≡ map all_inserted ts → map all_set us ≡ map all_set ts → AllPutIn test sets ts → AllPutIn test sets us
+  as_they_did ts us d e i = let q = to_lists ts i in from_lists us (subst (AllByRecursion All) (sym d) q.0) (subst (AllByRecursion Attrs) (sym e) q.1)
 
   joined_insert : (committed mine : List Transaction) (joined : List Transaction × List Transaction) → join_list committed mine ≡ Ok joined →
-      AllInsert test committed → AllInsert test mine → AllInsert test joined.0 × AllInsert test joined.1
+      AllPutIn test sets committed → AllPutIn test sets mine → AllPutIn test sets joined.0 × AllPutIn test sets joined.1
   joined_insert committed mine joined e i j =
-      let same = join_lists_insert_the_same committed mine joined e in (
-        from_lists joined.0 (subst (AllByRecursion All) (sym same.0) (to_lists committed i)),
-        from_lists joined.1 (subst (AllByRecursion All) (sym same.1) (to_lists mine j)),
-      )
+      let same = join_lists_insert_the_same committed mine joined e in
+      let set = join_lists_set_the_same committed mine joined e in
+      (as_they_did committed joined.0 same.0 set.0 i, as_they_did mine joined.1 same.1 set.1 j)
 
   -- ---- entries
 
   abbrev Entries : List Parcel → Type 0
-  Entries ps = AllByRecursion (AllInsert test) ps
+  Entries ps = AllByRecursion (AllPutIn test sets) ps
 
-  flat : (ps : List Parcel) → Entries ps → AllInsert test (flattened ps)
+  flat : (ps : List Parcel) → Entries ps → AllPutIn test sets (flattened ps)
   flat [] i = tt
   flat (p ∷ ps) i = all-append Ins p (flattened ps) i.0 (flat ps i.1)
 
-  kept_insert : (committed : List Transaction) (es : List Parcel) → AllInsert test committed → Entries es → Entries (join_entries committed es).kept
+  kept_insert : (committed : List Transaction) (es : List Parcel) → AllPutIn test sets committed → Entries es → Entries (join_entries committed es).kept
   kept_insert committed [] i j = tt
   kept_insert committed (e ∷ es) i j = by_first (λ over o. kept_insert over es o j.1) (join_list committed e) refl
     where
-      by_first : ((over : List Transaction) → AllInsert test over → Entries (join_entries over es).kept) → (r : Result (List Transaction × List Transaction) RangeConflict) → join_list committed e ≡ r →
+      by_first : ((over : List Transaction) → AllPutIn test sets over → Entries (join_entries over es).kept) → (r : Result (List Transaction × List Transaction) RangeConflict) → join_list committed e ≡ r →
           Entries (joined_first committed r (λ over. join_entries over es)).kept
       by_first rest (Err clash) d = tt
       by_first rest (Ok joined) d = let both = joined_insert committed e joined d i j.0 in (both.1, rest joined.0 both.0)
 
-  revoke_inserts : (entries : List Parcel) (i : ℕ) (back : List Transaction) (base : List PlainItem) → i < length entries → AllRun (flattened entries) base → AllInsert test (flattened entries) → All base →
-      revoke entries i ≡ Ok back → AllInsert test back
+  revoke_inserts : (entries : List Parcel) (i : ℕ) (back : List Transaction) (base : List PlainItem) → i < length entries → AllRun (flattened entries) base → AllPutIn test sets (flattened entries) → All base →
+      revoke entries i ≡ Ok back → AllPutIn test sets back
   revoke_inserts entries i back base l runs ins p e =
       let before : List Transaction = made_before entries i in
       let entry : List Transaction = entry_at entries i in
@@ -152,26 +177,26 @@ module _ (test : PlainItem → Bool) (keeps : SettingKeeps test) where
       let parts : flattened entries ≡ before ++ (entry ++ after) = flattened-at entries i l in
       let first = runs-parts before (entry ++ after) base (subst (λ ts. AllRun ts base) parts runs) in
       let second = runs-parts entry after (replay before base) first.1 in
-      let a = all-parts Ins before (entry ++ after) (subst (AllInsert test) parts ins) in
+      let a = all-parts Ins before (entry ++ after) (subst (AllPutIn test sets) parts ins) in
       let b = all-parts Ins entry after a.1 in
       mine after (reversal entry) (join_list after (reversal entry)) refl b.1 (reversal_inserts entry (replay before base) second.0 b.0 (replay_all before base first.0 a.0 p)) e
     where
-      mine : (later its : List Transaction) (r : Result (List Transaction × List Transaction) RangeConflict) → join_list later its ≡ r → AllInsert test later → AllInsert test its →
-          mine_of r ≡ Ok back → AllInsert test back
-      mine later its (Ok joined) d i j e = let same : joined.1 ≡ back = cc in subst (AllInsert test) same (joined_insert later its joined d i j).1
+      mine : (later its : List Transaction) (r : Result (List Transaction × List Transaction) RangeConflict) → join_list later its ≡ r → AllPutIn test sets later → AllPutIn test sets its →
+          mine_of r ≡ Ok back → AllPutIn test sets back
+      mine later its (Ok joined) d i j e = let same : joined.1 ≡ back = cc in subst (AllPutIn test sets) same (joined_insert later its joined d i j).1
       mine later its (Err clash) d i j e = cc
 
   -- ---- what counts of entries, and an entry taken back
 
-  first_inserts : (committed mine : List Transaction) (joined : List Transaction × List Transaction) → join_list committed mine ≡ Ok joined → AllInsert test committed → AllInsert test joined.0
+  first_inserts : (committed mine : List Transaction) (joined : List Transaction × List Transaction) → join_list committed mine ≡ Ok joined → AllPutIn test sets committed → AllPutIn test sets joined.0
   first_inserts committed mine joined e i =
-      from_lists joined.0 (subst (AllByRecursion All) (sym (join_lists_insert_the_same committed mine joined e).0) (to_lists committed i))
+      as_they_did committed joined.0 (join_lists_insert_the_same committed mine joined e).0 (join_lists_set_the_same committed mine joined e).0 i
 
   abbrev Counts : List Standing → Type 0
-  Counts standing = AllInsert test (all_standing standing)
+  Counts standing = AllPutIn test sets (all_standing standing)
 
-  last_counts : (s : Standing) (standing : List Standing) → Counts standing → AllInsert test s.txs → Counts (standing ++ s ∷ [])
-  last_counts s standing i j = subst (AllInsert test) (sym (all_standing-more standing s)) (all-append Ins (all_standing standing) s.txs i j)
+  last_counts : (s : Standing) (standing : List Standing) → Counts standing → AllPutIn test sets s.txs → Counts (standing ++ s ∷ [])
+  last_counts s standing i j = subst (AllPutIn test sets) (sym (all_standing-more standing s)) (all-append Ins (all_standing standing) s.txs i j)
 
   left_counts : (back taken : List Transaction) (after left : List Standing) → Counts after → left_without back taken after ≡ Some left → Counts left
   left_counts back taken after left i e = by_join (join_list (all_standing after) (reversal taken)) refl e
@@ -185,7 +210,7 @@ module _ (test : PlainItem → Bool) (keeps : SettingKeeps test) where
           by_test true e =
               let same : with_txs joined.0 after ≡ left = cc in
               let all = all_standing-with joined.0 after (joined_as_many (all_standing after) (reversal taken) joined d) in
-              subst Counts same (subst (AllInsert test) (sym all) (first_inserts (all_standing after) (reversal taken) joined d i))
+              subst Counts same (subst (AllPutIn test sets) (sym all) (first_inserts (all_standing after) (reversal taken) joined d i))
 
   without_counts : (m : ℕ) (back : List Transaction) (standing left : List Standing) → Counts standing → without m back standing ≡ Some left → Counts left
   without_counts m back [] left i e = cc
@@ -194,7 +219,7 @@ module _ (test : PlainItem → Bool) (keeps : SettingKeeps test) where
       Rest : Type 0
       Rest = (l : List Standing) → without m back after ≡ Some l → Counts l
 
-      parts : AllInsert test s.txs × Counts after
+      parts : AllPutIn test sets s.txs × Counts after
       parts = all-parts Ins s.txs (all_standing after) i
 
       by_rest : Rest → (o : Option (List Standing)) → without m back after ≡ o → option_map (λ l. s ∷ l) o ≡ Some left → Counts left
@@ -205,7 +230,7 @@ module _ (test : PlainItem → Bool) (keeps : SettingKeeps test) where
       by_number all true e = left_counts back s.txs after left parts.1 e
       by_number all false e = by_rest all (without m back after) refl e
 
-  stand_counts : (n : ℕ) (entry : Hinted) (standing : List Standing) → Counts standing → AllInsert test entry.txs → Counts (stand n entry standing)
+  stand_counts : (n : ℕ) (entry : Hinted) (standing : List Standing) → Counts standing → AllPutIn test sets entry.txs → Counts (stand n entry standing)
   stand_counts n entry standing i j = by_left (without_hint entry.takes_back entry.txs standing) (by_hint entry.takes_back)
     where
       by_hint : (o : Option ℕ) (left : List Standing) → without_hint o entry.txs standing ≡ Some left → Counts left
@@ -223,28 +248,28 @@ module _ (test : PlainItem → Bool) (keeps : SettingKeeps test) where
       live_counts i own (suc n) entries (stand n entry standing) result (stand_counts n entry standing c ins.0) ins.1
       (not_back (is_back i own entry standing) n (live_from i own (suc n) entries (stand n entry standing)) result e).1
 
-  in_parts : (ps : List Parcel) → AllInsert test (flattened ps) → Entries ps
+  in_parts : (ps : List Parcel) → AllPutIn test sets (flattened ps) → Entries ps
   in_parts [] i = tt
   in_parts (p ∷ ps) i = let q = all-parts Ins p (flattened ps) i in (q.0, in_parts ps q.1)
 
   revocation_inserts : (way : Bool) (entries : List Hinted) (i : ℕ) (back : List Transaction) (base : List PlainItem) → RunFrom entries i base → Entries (unhinted entries) → All base →
-      revocation way entries i ≡ Ok back → AllInsert test back
+      revocation way entries i ≡ Ok back → AllPutIn test sets back
   revocation_inserts false entries i back base r ins p e =
       let long = length-map entries (λ (e : Hinted). e.txs) in
       revoke_inserts (unhinted entries) i back base (let w = r.within in omega arith) r.runs (flat (unhinted entries) ins) p (in_conflict-ok (revoke (unhinted entries) i) back e)
   revocation_inserts true entries i back base r ins p e =
       let left = live_revoke_leaves_out entries i back base r e in
       let own = own_of entries i in
-      let cut = all-cut (AllInsert test) (suc i) (unhinted entries) ins in
+      let cut = all-cut (AllPutIn test sets) (suc i) (unhinted entries) ins in
       let later = subst Entries (drop-map (λ (e : Hinted). e.txs) (suc i) entries) cut.1 in
       let counts = live_counts i own (suc i) (drop (suc i) entries) [] left.standing tt later left.counts in
       let there = parted entries i base r in
-      let before = flat (take i (unhinted entries)) (all-cut (AllInsert test) i (unhinted entries) ins).0 in
+      let before = flat (take i (unhinted entries)) (all-cut (AllPutIn test sets) i (unhinted entries) ins).0 in
       let first = replay_all (made_before (unhinted entries) i) base there.first before p in
       (joined_insert (all_standing left.standing) (reversal own) (left.without, back) left.joined counts
       (reversal_inserts own (list_before entries i base) there.own (at_number (unhinted entries) i ins) first)).1
     where
-      at_number : (ps : List Parcel) (n : ℕ) → Entries ps → AllInsert test (entry_at ps n)
+      at_number : (ps : List Parcel) (n : ℕ) → Entries ps → AllPutIn test sets (entry_at ps n)
       at_number [] n ins = tt
       at_number (q ∷ ps) zero ins = ins.0
       at_number (q ∷ ps) (suc n) ins = at_number ps n ins.1
@@ -270,15 +295,15 @@ module _ (test : PlainItem → Bool) (keeps : SettingKeeps test) where
     pub members : Every Inside w.members
 
   pending_insert : (s : Site) → Sites s → Entries (parcels (pending s))
-  pending_insert s h = subst Entries (sym (parcels-append s.sent s.unsent)) (all-append (AllInsert test) (parcels s.sent) (parcels s.unsent) h.sent h.unsent)
+  pending_insert s h = subst Entries (sym (parcels-append s.sent s.unsent)) (all-append (AllPutIn test sets) (parcels s.sent) (parcels s.unsent) h.sent h.unsent)
 
   known_insert : (committed : List Parcel) (s : Site) → Entries committed → Sites s → Entries (entries_of committed s)
-  known_insert committed s c h = all-append (AllInsert test) (take s.seen committed) (parcels (pending s)) (all-cut (AllInsert test) s.seen committed c).0 (pending_insert s h)
+  known_insert committed s c h = all-append (AllPutIn test sets) (take s.seen committed) (parcels (pending s)) (all-cut (AllPutIn test sets) s.seen committed c).0 (pending_insert s h)
 
-  with_entry_inserts : (taken : Option ℕ) (ts : List Transaction) (s : Site) → AllInsert test ts → Sites s → Sites (with_entry_against taken ts s)
+  with_entry_inserts : (taken : Option ℕ) (ts : List Transaction) (s : Site) → AllPutIn test sets ts → Sites s → Sites (with_entry_against taken ts s)
   with_entry_inserts taken ts s i h = record {
     sent = h.sent;
-    unsent = subst Entries (sym (parcels-append s.unsent (entry_against taken ts s.replica ∷ []))) (all-append (AllInsert test) (parcels s.unsent) (parcels (entry_against taken ts s.replica ∷ [])) h.unsent (filled_insert ts s.replica.items i, tt));
+    unsent = subst Entries (sym (parcels-append s.unsent (entry_against taken ts s.replica ∷ []))) (all-append (AllPutIn test sets) (parcels s.unsent) (parcels (entry_against taken ts s.replica ∷ [])) h.unsent (filled_insert ts s.replica.items i, tt));
     undone = tt;
   }
 
@@ -291,7 +316,7 @@ module _ (test : PlainItem → Bool) (keeps : SettingKeeps test) where
           let p = init_and_last x es in
           let same : with_undone p.1 p.0 s ≡ next = cc in
           let whole : parcels s.unsent ≡ parcels p.0 ++ p.1.txs ∷ [] = ap parcels (sym (parted_is x es ∙ e)) ∙ parcels-append p.0 (p.1 ∷ []) in
-          let parts = all-parts (AllInsert test) (parcels p.0) (p.1.txs ∷ []) (subst Entries whole h.unsent) in
+          let parts = all-parts (AllPutIn test sets) (parcels p.0) (p.1.txs ∷ []) (subst Entries whole h.unsent) in
           subst Sites same (record { sent = h.sent; unsent = parts.0; undone = (parts.1.0, h.undone) })
 
   redo_inserts : (s next : Site) → redo s ≡ Ok next → Sites s → Sites next
@@ -301,18 +326,18 @@ module _ (test : PlainItem → Bool) (keeps : SettingKeeps test) where
       by_first [] e done = cc
       by_first (ts ∷ us) e done =
           let same : with_redone ts us s ≡ next = cc in
-          let parts : AllInsert test ts × Entries us = subst Entries (sym e) h.undone in
+          let parts : AllPutIn test sets ts × Entries us = subst Entries (sym e) h.undone in
           let new = with_entry_inserts (first_hint s.undone_hints) ts s parts.0 h in
           subst Sites same (record { sent = new.sent; unsent = new.unsent; undone = parts.1 })
 
-  take_entry_inserts : (foreign : Parcel) (s : Site) → AllInsert test foreign → Sites s → Sites (take_entry foreign s)
+  take_entry_inserts : (foreign : Parcel) (s : Site) → AllPutIn test sets foreign → Sites s → Sites (take_entry foreign s)
   take_entry_inserts foreign s i h =
       let new = take_entry foreign s in
       let kept = (join_entries foreign (parcels (pending s))).kept in
       let taken = hints (pending s) in
       let all = parcel_entries (length new.replica.store) taken kept in
       let inserts : Entries (parcels all) = subst Entries (sym (parcels-noted (length new.replica.store) taken kept)) (kept_insert foreign (parcels (pending s)) i (pending_insert s h)) in
-      let cut = all-cut (AllInsert test) (length s.sent) (parcels all) inserts in
+      let cut = all-cut (AllPutIn test sets) (length s.sent) (parcels all) inserts in
       record {
         sent = subst Entries (sym (parcels-take (length s.sent) all)) cut.0;
         unsent = subst Entries (sym (parcels-drop (length s.sent) all)) cut.1;
@@ -392,9 +417,9 @@ module _ (test : PlainItem → Bool) (keeps : SettingKeeps test) where
         let inside = here k m e in
         let queue : Entries s.entries × AllByRecursion (λ (x : Submission). Entries x.entries) later = subst (AllByRecursion (λ (x : Submission). Entries x.entries)) d inside.submissions in
         let since = drop s.base w.committed in
-        let kept = kept_insert (flattened since) s.entries (flat since (all-cut (AllInsert test) s.base w.committed h.committed).1) queue.0 in
+        let kept = kept_insert (flattened since) s.entries (flat since (all-cut (AllPutIn test sets) s.base w.committed h.committed).1) queue.0 in
         record {
-          committed = all-append (AllInsert test) w.committed (accepted_of w.committed s).kept h.committed kept;
+          committed = all-append (AllPutIn test sets) w.committed (accepted_of w.committed s).kept h.committed kept;
           members = fed_inserts k 0 (accepted_of w.committed s).kept (put_member k (record m { submissions = later }) w.members) kept
               (every_put Inside w.members k (record m { submissions = later }) h.members (record { site = inside.site; submissions = queue.1; feeds = inside.feeds }));
         }
@@ -422,7 +447,7 @@ module _ (test : PlainItem → Bool) (keeps : SettingKeeps test) where
     at_by None k f e all = h
     at_by (Some m) k f e all = all m e
 
-    event_inserts : (e : Event) → MayHappen w e → Inserts test e → InSession (happens w e)
+    event_inserts : (e : Event) → MayHappen w e → Inserts test sets e → InSession (happens w e)
     event_inserts (Perform k ts) may i = at_by (slice_get w.members k) k _ refl (λ m e. put_site w k m (with_entry ts m.site) h (here k m e) (with_entry_inserts None ts m.site i (here k m e).site))
     event_inserts (Select k s) may i =
         at_by (slice_get w.members k) k _ refl (λ m e. put_site w k m (with_selection s m.site) h (here k m e) (record { sent = (here k m e).site.sent; unsent = (here k m e).site.unsent; undone = (here k m e).site.undone }))
@@ -436,7 +461,7 @@ module _ (test : PlainItem → Bool) (keeps : SettingKeeps test) where
     event_inserts (Serve k) may i = at_by (slice_get w.members k) k _ refl (λ m e. serve_by k m e m.submissions refl)
     event_inserts (Take k) may i = at_by (slice_get w.members k) k _ refl (λ m e. take_by k m e m.feeds refl)
 
-  run_inserts : (es : List Event) (w : Session) → SessionHolds w → AllByRecursion P w.base.items → InSession w → AllMayHappen w es → AllByRecursion (Inserts test) es → InSession (run w es)
+  run_inserts : (es : List Event) (w : Session) → SessionHolds w → AllByRecursion P w.base.items → InSession w → AllMayHappen w es → AllByRecursion (Inserts test sets) es → InSession (run w es)
   run_inserts [] w holds base h may i = h
   run_inserts (e ∷ es) w holds base h may i =
       run_inserts es (happens w e) (event_holds w e holds may.0) (subst (λ (b : Replica). AllByRecursion P b.items) (sym (base_stays w e)) base) (event_inserts w holds base h e may.0 i.0) may.1 i.1
@@ -446,15 +471,28 @@ module _ (test : PlainItem → Bool) (keeps : SettingKeeps test) where
   start_inserts base (suc n) = (record { site = record { sent = tt; unsent = tt; undone = tt }; submissions = tt; feeds = tt }, start_inserts base n)
 
 pub items_keep : ItemsKeep
-items_keep test base sites events k m keeps opens may first inserts e =
+items_keep test sets base sites events k m keeps opens may first inserts e =
     let start = started base sites in
     let w = run start events in
-    let end = run_inserts test keeps events start (start_holds base sites opens.sound opens.stored) first (record { committed = tt; members = start_inserts test keeps base sites }) may inserts in
-    let inside = every_get (Inside test keeps) w.members k m end.members e in
-    let known = flat test keeps (entries_of w.committed m.site) (known_insert test keeps w.committed m.site end.committed inside.site) in
+    let begins : InSession test sets keeps start = record { committed = tt; members = start_inserts test sets keeps base sites } in
+    let end = run_inserts test sets keeps events start (start_holds base sites opens.sound opens.stored) first begins may inserts in
+    let inside = every_get (Inside test sets keeps) w.members k m end.members e in
+    let known = flat test sets keeps (entries_of w.committed m.site) (known_insert test sets keeps w.committed m.site end.committed inside.site) in
     subst (AllPass test) (sym (list_is_replay base sites events k m opens may e))
-    (replay_all test keeps (flattened (entries_of w.committed m.site)) base.items (all_entries_run base sites events k m opens may e) known first)
+    (replay_all test sets keeps (flattened (entries_of w.committed m.site)) base.items (all_entries_run base sites events k m opens may e) known first)
 
 pub revocations_keep : RevocationsKeep
-revocations_keep test way entries i back base keeps r inserts first e =
-    revocation_inserts test keeps way entries i back base r (in_parts test keeps (unhinted entries) inserts) first e
+revocations_keep test sets way entries i back base keeps r inserts first e =
+    revocation_inserts test sets keeps way entries i back base r (in_parts test sets keeps (unhinted entries) inserts) first e
+
+-- ---- where any attribute may be set
+
+any_passes : (attrs : List Attr) → AttrsPass any_attr attrs
+any_passes [] = tt
+any_passes (a ∷ attrs) = (refl, any_passes attrs)
+
+pub any_keeps : (test : PlainItem → Bool) → ((c : AttrChange) (item : PlainItem) → allows c item ≡ true → test item ≡ true → test (item_changed c item) ≡ true) → SettingKeeps test any_attr
+any_keeps test h = record { stays = λ c item e set p. h c item e p; was = λ c item e p. any_passes (attr_of c.name c.from) }
+
+pub puts_any : (test : PlainItem → Bool) (t : Transaction) → AllPass test (all_inserted t) → PutsIn test any_attr t
+puts_any test t i = (i, any_passes (all_set t))

@@ -5,7 +5,7 @@ use Rattle.ve_base.specs.declared.marks.Mark.{Mark}
 use Rattle.ve_base.specs.declared.value.Value.TheVariants as value
 use Rattle.model_items.specs.declared.plain_item.PlainItem.{PlainItem}
 use Rattle.model_items.specs.declared.plain_item.PlainItem.TheVariants.{Char}
-use Rattle.model_change.specs.Transaction.{Retain, Replace, Transaction}
+use Rattle.model_change.specs.Transaction.{Attribute, Retain, Replace, Transaction}
 use Rattle.model_edit.specs.Translate.{between}
 use Rattle.model_site.specs.Entries.{Entry, entry_of}
 use Rattle.model_site.specs.Replica.{Replica, opened_with}
@@ -14,7 +14,7 @@ use Rattle.model_site.specs.Site.{Site, starting, with_entry}
 use Rattle.model_site.specs.Events.{Perform, Undo, Redo, Tell}
 use Rattle.model_site_law.specs.Chain.{needed_values, store_after_all}
 use Rattle.model_site_law.specs.Protocol.{InStep, kept_under}
-use Rattle.model_site_law.specs.ItemLaws.{Inserts}
+use Rattle.model_site_law.specs.ItemLaws.{Inserts, all_set, any_attr}
 use Rattle.model_site_law.specs.Laws.{turns}
 use Rattle.model_site_law.specs.StoreLaws.{BeginsWith}
 use Rattle.model_site_law.specs.ViewLaws.{IsViewOf, patched, told_at, whole}
@@ -53,10 +53,20 @@ abbrev is_char : PlainItem → Bool
 is_char (Char c marks) = true
 is_char _ = false
 
--- what is performed is asked for its inserted items alone: the removal passes any test, and of what
--- is undone nothing is asked
-one_letter : Inserts is_char (Perform 0 (removal ∷ insertion 1 3 ∷ [])) × Inserts (λ item. false) (Perform 0 (removal ∷ [])) × Inserts (λ item. false) (Undo 0)
-one_letter = ((tt, ((refl, tt), tt)), (tt, tt), tt)
+-- what is performed is asked for what it puts in alone: the removal passes any test, and of what is
+-- undone nothing is asked
+abbrev no_item : PlainItem → Bool
+no_item item = false
+
+one_letter : Inserts is_char any_attr (Perform 0 (removal ∷ insertion 1 3 ∷ [])) × Inserts no_item any_attr (Perform 0 (removal ∷ [])) × Inserts no_item any_attr (Undo 0)
+one_letter = (((tt, tt), (((refl, tt), tt), tt)), ((tt, tt), tt), tt)
+
+-- of an attribute that is set the new value counts, and of one that is taken away none
+abbrev setting : Option (List ℕ) → Transaction
+setting to = Attribute (record { name = codes "id"; from = Some (codes "b"); to = to; kept = None }) ∷ Retain 4 ∷ []
+
+values_set : (all_set (setting (Some (codes "a"))) ≡ record { name = codes "id"; value = codes "a" } ∷ []) × (all_set (setting None) ≡ [])
+values_set = (refl, refl)
 
 -- what was opened, and an entry that brings one more value
 abbrev opened : Replica

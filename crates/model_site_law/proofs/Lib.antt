@@ -25,6 +25,7 @@ pub mod SelectionLemmas
 pub mod KeptLemmas
 pub mod EditLemmas
 pub mod CountLemmas
+pub mod SetLemmas
 pub mod ItemLemmas
 pub mod HintLemmas
 pub mod BeginLemmas

@@ -169,9 +169,9 @@ pub fn patches_count()
     ensures made { TellsWhatWasMade }
 {}
 
-/// A property that each opened and each inserted item has, and that setting an attribute keeps,
-/// holds of each item of every site's list. What is undone, redone, joined and taken back inserts
-/// no other items, and so it is of entries that run from any page.
+/// A property that each opened and each inserted item has, and that setting the attributes that are
+/// set keeps, holds of each item of every site's list. What is undone, redone, joined and taken back
+/// puts in nothing else, and so it is of entries that run from any page.
 pub fn items_keep()
     ensures always { ItemsKeep }
     ensures revoked { RevocationsKeep }

@@ -59,7 +59,7 @@ batches = refl
 typing : Costs
     ((codes "{\"do\":\"open\",\"page\":\"<p>ab</p>\"}", 40)
     ∷ (codes "{\"do\":\"select\",\"anchor\":2,\"focus\":2}", 0)
-    ∷ (codes "{\"do\":\"type\",\"text\":\"X\"}", 40 + 40)
+    ∷ (codes "{\"do\":\"type\",\"text\":\"X\"}", 40)
     ∷ (codes "{\"do\":\"select\",\"anchor\":2,\"focus\":3}", 0)
     ∷ (codes "{\"do\":\"type\",\"text\":\"Y\"}", 40 + (40 + 40))
     ∷ (codes "{\"do\":\"select\",\"anchor\":1,\"focus\":2}", 0)

@@ -1,7 +1,7 @@
 -- How many steps a line may take. A step makes a node of a linked tree, lets one go, or writes one
 -- field of one. It is said by the nodes of the model's trees alone: how many a list's tree has, and
 -- how many a transaction touches.
-use Rattle.std.specs.Prelude.{ℕ, ◌+◌, ◌*◌, nat_le, nat_lt, Bool, true, false, ◌||◌, if◌then◌else◌, List, [], ◌∷◌, length, map, slice_get, Option, Some, None, Result, Ok, Err}
+use Rattle.std.specs.Prelude.{ℕ, ◌+◌, ◌*◌, nat_le, nat_lt, Bool, true, false, not, ◌||◌, if◌then◌else◌, List, [], ◌∷◌, length, map, slice_get, Option, Some, None, Result, Ok, Err}
 use Rattle.ve_base.specs.Limits.{max_line}
 use Rattle.model_items.specs.declared.plain_item.PlainItem.{PlainItem}
 use Rattle.model_items.specs.Cost.{cost_of_tree}
@@ -22,7 +22,7 @@ use Rattle.model_world.specs.declared.command.Request.TheVariants as request
 use Rattle.model_world.specs.declared.edit_command.EditCommand.{EditCommand}
 use Rattle.model_world.specs.declared.edit_command.EditCommand.TheVariants as change
 use Rattle.model_world.specs.declared.refusal.Refusal.{Refusal}
-use Rattle.model_world.specs.Answers.{higher, lower, to_erase, typing}
+use Rattle.model_world.specs.Answers.{higher, is_collapsed, lower, to_erase, typing}
 use Rattle.model_world.specs.Commands.{command}
 use Rattle.model_world.specs.Completed.{completed}
 use Rattle.model_world.specs.Edits.{change_on, checked_transaction}
@@ -88,12 +88,13 @@ abbrev pub takes_several : List SiteFeed → Bool
 takes_several (Foreign (one ∷ other ∷ entries) ∷ later) = true
 takes_several feeds = false
 
--- A batch and a text that is typed are made on a copy; so is what makes several transactions.
-abbrev pub is_on_copy : Request → List SiteFeed → List Transaction → Bool
-is_on_copy (request.Batch cmds) feeds ts = true
-is_on_copy (request.TypeText text) feeds ts = true
-is_on_copy request.Take feeds ts = takes_several feeds || nat_le 2 (length ts)
-is_on_copy _ feeds ts = nat_le 2 (length ts)
+-- A batch and a text that is typed over a selection are made on a copy; so is what makes several
+-- transactions. A text that is typed at a caret isn't.
+abbrev pub is_on_copy : Request → Member → List Transaction → Bool
+is_on_copy (request.Batch cmds) m ts = true
+is_on_copy (request.TypeText text) m ts = not (is_collapsed m.site.replica.selection)
+is_on_copy request.Take m ts = takes_several m.feeds || nat_le 2 (length ts)
+is_on_copy _ m ts = nat_le 2 (length ts)
 
 -- ---- a line
 
@@ -101,7 +102,7 @@ abbrev pub cost_of_made : Bool → List Transaction → List PlainItem → ℕ
 cost_of_made on_copy ts items = (if on_copy then cost_of_tree items else 0) + cost_of_transactions ts items
 
 abbrev pub cost_of_request : (opened : List PlainItem) → Session → Member → Request → ℕ
-cost_of_request opened w m r = let ts = made_by opened w m r in cost_of_made (is_on_copy r m.feeds ts) ts m.site.replica.items
+cost_of_request opened w m r = let ts = made_by opened w m r in cost_of_made (is_on_copy r m ts) ts m.site.replica.items
 
 -- a page that is opened for so many sites: a tree for each
 abbrev pub cost_of_opening : ℕ → Result Opened Refusal → ℕ

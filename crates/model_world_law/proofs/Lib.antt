@@ -7,6 +7,7 @@ pub mod CauseLemmas
 pub mod ReadLemmas
 pub mod WrittenLemmas
 pub mod TypedLemmas
+pub mod PerformedLemmas
 pub mod LinkLemmas
 pub mod ReachLemmas
 pub mod ShownLemmas
@@ -29,7 +30,20 @@ pub mod AheadLemmas
 mod AheadExamples
 pub mod PutBackLemmas
 pub mod PutBackChange
+pub mod PutBackWorlds
 mod PutBackExamples
 pub mod OriginEdits
 pub mod OriginChanges
 pub mod FirstOrigins
+pub mod WritableLemmas
+pub mod WritableEdits
+pub mod WritableTables
+pub mod WritableChanges
+pub mod WritableWords
+pub mod WritableLines
+pub mod WritableTexts
+pub mod WritableTags
+pub mod WritableFits
+pub mod WritableParts
+pub mod WritableMade
+pub mod WritablePages

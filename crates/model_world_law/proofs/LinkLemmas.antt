@@ -5,8 +5,7 @@ use Rattle.std.proofs.lemmas.Bool.{or_parts, ltb-true, ltb-false}
 use Rattle.model_items.specs.declared.plain_item.PlainItem.{PlainItem}
 use Rattle.model_items.specs.Law.{Lawful}
 use Rattle.model_items.proofs.LawLemmas.{Ok-same}
-use Rattle.model_change.specs.Transaction.{Transaction, all_inserted, edited}
-use Rattle.model_change.proofs.FilledLemmas.{names_stay_apart}
+use Rattle.model_change.specs.Transaction.{Transaction, all_inserted}
 use Rattle.model_edit.specs.declared.selection.Selection.{Selection}
 use Rattle.model_edit.specs.Causes.{TableCause, ListCause}
 use Rattle.model_edit.specs.declared.selection.Dir.{Dir}
@@ -19,11 +18,10 @@ use Rattle.model_edit_law.proofs.NextLemmas.{caret_stays_in_branch}
 use Rattle.model_edit.specs.Grid.{Grid, grid}
 use Rattle.model_edit.specs.Tables.{row_in, row_out, col_in, col_out}
 use Rattle.model_edit.specs.Lists.{indent, outdent}
-use Rattle.model_site.specs.Causes.{EditCause, UndoCause, RedoCause, SendCause}
+use Rattle.model_site.specs.Causes.{UndoCause, RedoCause, SendCause}
 use Rattle.model_site.specs.declared.served.Served.{Served}
 use Rattle.model_site.specs.declared.taken.Taken.{Taken}
 use Rattle.model_site.specs.Replica.{Replica, performed, all_performed}
-use Rattle.model_site.specs.Refused.{edit_cause}
 use Rattle.model_site.specs.Live.{RevokeCause}
 use Rattle.model_site.specs.Site.{Site, Submission, with_entry, with_selection, with_told, undo, redo, send, revoke_entry}
 use Rattle.model_site.specs.Session.{Session, Member, put_member, with_member, serve_next, take_next}
@@ -33,7 +31,6 @@ use Rattle.model_site_law.specs.Sound.{Sound, MayRun, AllMayRun}
 use Rattle.model_site_law.specs.MayHappen.{MayHappen}
 use Rattle.model_site_law.specs.SelectionLaws.{StandsIn, SelectsWithin}
 use Rattle.model_site_law.specs.SelectionLaws as selection
-use Rattle.model_site_law.proofs.EditLemmas.{edit_may_run}
 use Rattle.model_world.specs.declared.edit_command.TextMarks.TheVariants.{Left}
 use Rattle.model_world.specs.declared.edit_command.EditCommand.{EditCommand}
 use Rattle.model_world.specs.declared.edit_command.EditCommand.TheVariants as change
@@ -44,12 +41,11 @@ use Rattle.model_world.specs.declared.refusal.Refusal.TheVariants.{BadRange, Bad
 use Rattle.model_world.specs.declared.reply.Reply.TheVariants as reply
 use Rattle.model_world.specs.Refusals.{refused_as, build_refusal, undo_refusal, redo_refusal, send_refusal, revoke_refusal, table_refusal, list_refusal}
 use Rattle.model_world.specs.Completed.{completed}
-use Rattle.model_world.specs.Edits.{BatchRefusal, checked_transaction, unless_faulty, change_of, change_on, batch_from, batch_on}
+use Rattle.model_world.specs.Edits.{BatchRefusal, checked_transaction, change_of, change_on, batch_on}
 use Rattle.model_world.specs.Answers.{Outcome, Asked, request_outcome, with_site, site_of, replica_of, site_items, unchanged_outcome, refusal_outcome, changed_or_no, performed_or_no, batch_or_no, selection_outcome, is_no_end, select_between, next_place, moved_or_no, lower, higher, is_collapsed, to_erase, erased_or_no, typing, after_text, typed_or_no, items_shown_or_no, node_told, node_or_no, content_near, offset_told, near_or_no, grid_or_no, table_changed, list_changed, sent_or_no, served_or_no, taken_or_no, revoked_or_no, edge_or, told_outcome}
-use Rattle.model_change.proofs.Fits.{parts_of_Applies}
-use Rattle.model_site_law.specs.ItemLaws.{AllInsert, AllPass, Inserts, SettingKeeps}
+use Rattle.model_site_law.specs.ItemLaws.{AllPass, AllPutIn, Inserts, any_attr}
 use Rattle.model_site_law.specs.Protocol.{Every}
-use Rattle.model_site_law.proofs.ItemLemmas.{edited_all}
+use Rattle.model_site_law.proofs.ItemLemmas.{puts_any}
 use Rattle.model_site_law.proofs.SessionLemmas.{every_get}
 use Rattle.model_world_law.specs.Standing.{may_stand}
 use Rattle.model_world_law.proofs.StandLemmas.{setting_keeps}
@@ -65,93 +61,13 @@ use Rattle.model_world_law.proofs.CompletedLemmas.{AllFormed, AllInsertWell, IsF
 use Rattle.model_world_law.specs.PutBack.{has_first}
 use Rattle.model_world_law.proofs.OriginChanges.{ChangeFirst, all_completed_first, change_first, completed_first, setting_stays}
 use Rattle.model_world_law.proofs.OriginEdits as edit
+use Rattle.model_world_law.specs.Writable.{ChangeIsWritable, RequestIsWritable, is_attr, is_writable}
+use Rattle.model_world_law.proofs.WritableChanges.{all_completed_write, change_writes, completed_writes}
+use Rattle.model_world_law.proofs.WritableEdits.{InsertsWritten}
+use Rattle.model_world_law.proofs.WritableLemmas.{setting_writes}
+use Rattle.model_world_law.proofs.WritableTables as table
 use Rattle.model_world_law.proofs.TypedLemmas.{content_no_leaf, typed_stands}
-
--- ---- what may be performed
-
--- a transaction that is allowed is the one that was given, and the site does not refuse it
-pub record IsAllowed (r : Replica) (result : Result Transaction Refusal) (t : Transaction) : Type 0 where
-  pub given : result ≡ Ok t
-  pub faultless : edit_cause t r ≡ None
-
-allowed_is : (r : Replica) (result : Result Transaction Refusal) (t : Transaction) → checked_transaction r result ≡ Ok t → IsAllowed r result t
-allowed_is r (Err refusal) t h = cc
-allowed_is r (Ok u) t h = by_fault (edit_cause u r) refl h
-  where
-    by_fault : (o : Option EditCause) → edit_cause u r ≡ o → unless_faulty o u ≡ Ok t → IsAllowed r (Ok u) t
-    by_fault (Some f) e h = cc
-    by_fault None e h =
-        let same : u ≡ t = cc in
-        record { given = ap (λ v. Ok v) same; faultless = subst (λ v. edit_cause v r ≡ None) same e }
-
-may_run : (r : Replica) (result : Result Transaction Refusal) (t : Transaction) → ((u : Transaction) → result ≡ Ok u → Fit u) → checked_transaction r result ≡ Ok t → MayRun t r.items
-may_run r result t fit h =
-    let a = allowed_is r result t h in
-    let f = fit t a.given in
-    edit_may_run t r f.reduced f.apart a.faultless
-
-sound_next : (t : Transaction) (items : List PlainItem) → Sound items → MayRun t items → Sound (edited t items)
-sound_next t items s m = record { lawful = m.lawful; apart = names_stay_apart t items m.applies m.apart s.apart }
-
-batch_may : (i : ℕ) (cs : List EditCommand) (r : Replica) (ts : List Transaction) → AllFormed cs → Sound r.items → batch_from i cs r ≡ Ok ts → AllMayRun ts r.items
-batch_may i [] r ts formed sound h = let e : ◌≡◌ {A = List Transaction} [] ts = cc in subst (λ us. AllMayRun us r.items) e tt
-batch_may i (c ∷ cs) r ts formed sound h = by_first (λ j s us. batch_may j cs s us formed.1) (change_on r c) refl h
-  where
-    by_first : ((j : ℕ) (s : Replica) (us : List Transaction) → Sound s.items → batch_from j cs s ≡ Ok us → AllMayRun us s.items) →
-        (first : Result Transaction Refusal) → change_on r c ≡ first →
-        (elim first as (λ _. Result (List Transaction) BatchRefusal) [
-          | Err f ↦ Err (record { at = i; refusal = f })
-          | Ok t ↦ elim (batch_from (suc i) cs (performed t r)) as (λ _. Result (List Transaction) BatchRefusal) [ Err f ↦ Err f | Ok us ↦ Ok (t ∷ us) ]
-        ]) ≡ Ok ts → AllMayRun ts r.items
-    by_first rest_may (Err f) e h = cc
-    by_first rest_may (Ok t) e h = by_rest (batch_from (suc i) cs (performed t r)) refl h
-      where
-        by_rest : (rest : Result (List Transaction) BatchRefusal) → batch_from (suc i) cs (performed t r) ≡ rest →
-            (elim rest as (λ _. Result (List Transaction) BatchRefusal) [ Err f ↦ Err f | Ok us ↦ Ok (t ∷ us) ]) ≡ Ok ts → AllMayRun ts r.items
-        by_rest (Err f) d h = cc
-        by_rest (Ok us) d h =
-            let may = may_run r (change_of r.items c) t (λ u k. formed_fits r.items c u formed.0 sound k) e in
-            let same : t ∷ us ≡ ts = cc in
-            subst (λ vs. AllMayRun vs r.items) same (may, rest_may (suc i) (performed t r) us (sound_next t r.items sound may) d)
-
--- each change of a batch inserts items that pass, since those before it leave such items
-batch_inserts : (test : PlainItem → Bool) (Q : EditCommand → Type 0) → SettingKeeps test →
-    ((items : List PlainItem) (c : EditCommand) (t : Transaction) → Q c → Sound items → AllPass test items → change_of items c ≡ Ok t → AllPass test (all_inserted t)) →
-    (i : ℕ) (cs : List EditCommand) (r : Replica) (ts : List Transaction) → AllFormed cs → AllByRecursion Q cs → Sound r.items → AllPass test r.items → batch_from i cs r ≡ Ok ts → AllInsert test ts
-batch_inserts test Q keeps one i [] r ts formed well sound p h = let e : ◌≡◌ {A = List Transaction} [] ts = cc in subst (AllInsert test) e tt
-batch_inserts test Q keeps one i (c ∷ cs) r ts formed well sound p h = by_first (λ j s us. batch_inserts test Q keeps one j cs s us formed.1 well.1) (change_on r c) refl h
-  where
-    by_first : ((j : ℕ) (s : Replica) (us : List Transaction) → Sound s.items → AllPass test s.items → batch_from j cs s ≡ Ok us → AllInsert test us) →
-        (first : Result Transaction Refusal) → change_on r c ≡ first →
-        (elim first as (λ _. Result (List Transaction) BatchRefusal) [
-          | Err f ↦ Err (record { at = i; refusal = f })
-          | Ok t ↦ elim (batch_from (suc i) cs (performed t r)) as (λ _. Result (List Transaction) BatchRefusal) [ Err f ↦ Err f | Ok us ↦ Ok (t ∷ us) ]
-        ]) ≡ Ok ts → AllInsert test ts
-    by_first rest_inserts (Err f) e h = cc
-    by_first rest_inserts (Ok t) e h = by_rest (batch_from (suc i) cs (performed t r)) refl h
-      where
-        by_rest : (rest : Result (List Transaction) BatchRefusal) → batch_from (suc i) cs (performed t r) ≡ rest →
-            (elim rest as (λ _. Result (List Transaction) BatchRefusal) [ Err f ↦ Err f | Ok us ↦ Ok (t ∷ us) ]) ≡ Ok ts → AllInsert test ts
-        by_rest (Err f) d h = cc
-        by_rest (Ok us) d h =
-            let may = may_run r (change_of r.items c) t (λ u k. formed_fits r.items c u formed.0 sound k) e in
-            let inserts = one r.items c t well.0 sound p (allowed_is r (change_of r.items c) t e).given in
-            let same : t ∷ us ≡ ts = cc in
-            subst (AllInsert test) same (inserts, rest_inserts (suc i) (performed t r) us (sound_next t r.items sound may) (edited_all test keeps t r.items (parts_of_Applies t r.items may.applies).1 inserts p) d)
-
-typing_each : (P : EditCommand → Type 0) → ((at : ℕ) (text : List ℕ) → P (change.Text at text Left)) → ((from to : ℕ) → P (change.Remove from to)) →
-    (s : Selection) (text : List ℕ) → AllByRecursion P (typing s text)
-typing_each P put remove s text = by_test (is_collapsed s)
-  where
-    by_test : (b : Bool) → AllByRecursion P (if b then change.Text (lower s) text Left ∷ [] else change.Remove (lower s) (higher s) ∷ change.Text (lower s) text Left ∷ [])
-    by_test true = (put (lower s) text, tt)
-    by_test false = (remove (lower s) (higher s), (put (lower s) text, tt))
-
-typing_formed : (s : Selection) (text : List ℕ) → AllFormed (typing s text)
-typing_formed = typing_each IsFormed (λ at text. tt) (λ from to. tt)
-
-typing_inserts_well : (s : Selection) (text : List ℕ) → AllInsertWell (typing s text)
-typing_inserts_well = typing_each InsertsWell (λ at text. tt) (λ from to. tt)
+use Rattle.model_world_law.proofs.PerformedLemmas.{allowed_is, batch_inserts, batch_may, may_run, typing_each, typing_formed, typing_inserts_well, typing_writable}
 
 -- ---- members put in their places
 
@@ -188,7 +104,7 @@ abbrev pub Leads : Asked → Outcome → Type 0
 Leads = LeadsBy None
 
 stays : (a : Asked) → Becomes None a.session a.session
-stays a = record { events = []; may = tt; within = tt; inserts = λ base every. tt; origins = λ every. tt; told = λ k before. refl; same = refl }
+stays a = record { events = []; may = tt; within = tt; inserts = λ base every. tt; origins = λ every. tt; writes = λ every. tt; told = λ k before. refl; same = refl }
 
 -- the items of the page and of the site that is asked may stand, where those of every site may
 abbrev Items : Asked → Type 0
@@ -208,15 +124,22 @@ asked_comes : (a : Asked) → Stands a → Every (λ m. AllPass (has_first a.ses
 asked_comes a s every =
     subst (λ items. AllPass (has_first items) (site_items a)) s.base (every_get (λ m. AllPass (has_first a.session.base.items) m.site.replica.items) a.session.members a.k a.member every s.there)
 
--- what is inserted may stand, and comes from the page
+-- a line can write them
+abbrev Says : Asked → Type 0
+Says a = AllPass is_writable (site_items a)
+
+asked_says : (a : Asked) → Stands a → Every (λ m. AllPass is_writable m.site.replica.items) a.session.members → Says a
+asked_says a s every = every_get (λ m. AllPass is_writable m.site.replica.items) a.session.members a.k a.member every s.there
+
+-- what is inserted may stand, comes from the page, and can be written
 abbrev Puts : Asked → Event → Type 0
-Puts a e = (Items a → Inserts may_stand e) × (Comes a → Inserts (has_first a.page.items) e)
+Puts a e = (Items a → Inserts may_stand any_attr e) × (Comes a → Inserts (has_first a.page.items) any_attr e) × (Says a → Inserts is_writable is_attr e)
 
 abbrev PutsOne : Asked → Transaction → Type 0
-PutsOne a t = (Items a → InsertsStanding t) × (Comes a → AllPass (has_first a.page.items) (all_inserted t))
+PutsOne a t = (Items a → InsertsStanding t) × (Comes a → AllPass (has_first a.page.items) (all_inserted t)) × (Says a → InsertsWritten t)
 
 abbrev PutsAll : Asked → List Transaction → Type 0
-PutsAll a ts = (Items a → AllInsert may_stand ts) × (Comes a → AllInsert (has_first a.page.items) ts)
+PutsAll a ts = (Items a → AllPutIn may_stand any_attr ts) × (Comes a → AllPutIn (has_first a.page.items) any_attr ts) × (Says a → AllPutIn is_writable is_attr ts)
 
 one_event : {t : Option ℕ} (a : Asked) → Stands a → (e : Event) (next : Session) → ((k : ℕ) (before : List PlainItem) → told_at k a.session e before ≡ told_if t k a.session before) →
     MayHappen a.session e → SelectsWithin a.session e → Puts a e → next ≡ happens a.session e → Becomes t a.session next
@@ -225,7 +148,8 @@ one_event a s e next told may within puts same = record {
   may = (may, tt);
   within = (within, tt);
   inserts = λ base every. (puts.0 (asked_items a s base every), tt);
-  origins = λ every. (subst (λ items. Inserts (has_first items) e) (sym s.base) (puts.1 (asked_comes a s every)), tt);
+  origins = λ every. (subst (λ items. Inserts (has_first items) any_attr e) (sym s.base) (puts.1 (asked_comes a s every)), tt);
+  writes = λ every. (puts.2 (asked_says a s every), tt);
   told = told;
   same = same;
 }
@@ -247,7 +171,7 @@ performs a s ts may inserts =
 performed_leads : (a : Asked) → Stands a → (r : Result Transaction Refusal) → ((t : Transaction) → r ≡ Ok t → MayRun t (site_items a)) → ((t : Transaction) → r ≡ Ok t → PutsOne a t) →
     Leads a (performed_or_no a r)
 performed_leads a s (Err refusal) may inserts = tt
-performed_leads a s (Ok t) may inserts = performs a s (t ∷ []) (may t refl, tt) ((λ p. ((inserts t refl).0 p, tt)), (λ p. ((inserts t refl).1 p, tt)))
+performed_leads a s (Ok t) may inserts = performs a s (t ∷ []) (may t refl, tt) ((λ p. (puts_any may_stand t ((inserts t refl).0 p), tt)), (λ p. (puts_any (has_first a.page.items) t ((inserts t refl).1 p), tt)), (λ p. ((inserts t refl).2 p, tt)))
 
 allowed_leads : (a : Asked) → Stands a → (r : Result Transaction Refusal) → ((u : Transaction) → r ≡ Ok u → Fit u) → ((u : Transaction) → r ≡ Ok u → PutsOne a u) →
     Leads a (performed_or_no a (checked_transaction (replica_of a) r))
@@ -261,7 +185,7 @@ batch_leads a s (Ok ts) may inserts = performs a s ts (may ts refl) (inserts ts 
 
 selects : (a : Asked) → Stands a → (sel : Selection) → StandsIn (site_items a) sel → Leads a (selection_outcome a sel)
 selects a s sel within =
-    one_event a s (Select a.k sel) _ (λ k before. refl) tt (λ m e. subst (λ n. StandsIn n.site.replica.items sel) (same_member a s m e) within) ((λ p. tt), (λ p. tt))
+    one_event a s (Select a.k sel) _ (λ k before. refl) tt (λ m e. subst (λ n. StandsIn n.site.replica.items sel) (same_member a s m e) within) ((λ p. tt), (λ p. tt), (λ p. tt))
     (of_member a s (λ m. events.with_site a.k m (with_selection sel m.site) a.session))
 
 typed_leads : (a : Asked) → Stands a → (r : Result (List Transaction) BatchRefusal) → ((ts : List Transaction) → r ≡ Ok ts → AllMayRun ts (site_items a)) →
@@ -282,7 +206,8 @@ typed_leads a s (Ok ts) may stands inserts =
       may = ((λ m e. subst (λ n. AllMayRun ts n.site.replica.items) (same_member a s m e) (may ts refl)), (tt, tt));
       within = (tt, (subst (λ (v : Session). (m : Member) → slice_get v.members a.k ≡ Some m → StandsIn m.site.replica.items sel) (perform_same a s ts) of_middle, tt));
       inserts = λ base every. ((inserts ts refl).0 (asked_items a s base every), (tt, tt));
-      origins = λ every. (subst (λ items. AllInsert (has_first items) ts) (sym s.base) ((inserts ts refl).1 (asked_comes a s every)), (tt, tt));
+      origins = λ every. (subst (λ items. AllPutIn (has_first items) any_attr ts) (sym s.base) ((inserts ts refl).1 (asked_comes a s every)), (tt, tt));
+      writes = λ every. ((inserts ts refl).2 (asked_says a s every), (tt, tt));
       told = λ k before. refl;
       same = ap (λ ms. record a.session { members = ms }) (sym (put_put a.k last middle a.session.members))
           ∙ ap (λ o. at_member w o (λ m. events.with_site a.k m (with_selection sel m.site) w)) (sym there)
@@ -346,19 +271,19 @@ grid_leads a (Err f) = tt
 
 undo_leads : (a : Asked) → Stands a → (r : Result Site UndoCause) → undo (site_of a) ≡ r → Leads a (changed_or_no a (refused_as undo_refusal r))
 undo_leads a s (Err f) e = tt
-undo_leads a s (Ok site) e = one_event a s (Undo a.k) _ (λ k before. refl) tt tt ((λ p. tt), (λ p. tt))
+undo_leads a s (Ok site) e = one_event a s (Undo a.k) _ (λ k before. refl) tt tt ((λ p. tt), (λ p. tt), (λ p. tt))
     (ap (λ r. with_site_of a.k a.member r a.session) (sym e) ∙ of_member a s (λ m. with_site_of a.k m (undo m.site) a.session))
 
 redo_leads : (a : Asked) → Stands a → (r : Result Site RedoCause) → redo (site_of a) ≡ r → Leads a (changed_or_no a (refused_as redo_refusal r))
 redo_leads a s (Err f) e = tt
-redo_leads a s (Ok site) e = one_event a s (Redo a.k) _ (λ k before. refl) tt tt ((λ p. tt), (λ p. tt))
+redo_leads a s (Ok site) e = one_event a s (Redo a.k) _ (λ k before. refl) tt tt ((λ p. tt), (λ p. tt), (λ p. tt))
     (ap (λ r. with_site_of a.k a.member r a.session) (sym e) ∙ of_member a s (λ m. with_site_of a.k m (redo m.site) a.session))
 
 revoke_leads : (a : Asked) → Stands a → (i : ℕ) (live : Bool) → i < (site_of a).seen → (r : Result Site RevokeCause) → revoke_entry a.session.committed a.session.hints live i (site_of a) ≡ r →
     Leads a (changed_or_no a (refused_as (revoke_refusal i) r))
 revoke_leads a s i live seen (Err f) e = tt
 revoke_leads a s i live seen (Ok site) e = one_event a s (Revoke a.k i live) _ (λ k before. refl)
-    (λ m there. subst (λ n. i < n.site.seen) (same_member a s m there) seen) tt ((λ p. tt), (λ p. tt))
+    (λ m there. subst (λ n. i < n.site.seen) (same_member a s m there) seen) tt ((λ p. tt), (λ p. tt), (λ p. tt))
     (ap (λ r. with_site_of a.k a.member r a.session) (sym e) ∙ of_member a s (λ m. with_site_of a.k m (revoke_entry a.session.committed a.session.hints live i m.site) a.session))
 
 revoked_leads : (a : Asked) → Stands a → (i : ℕ) (live : Bool) → Leads a (revoked_or_no a i live)
@@ -373,50 +298,51 @@ revoked_leads a s i live = by_seen (nat_lt i (site_of a).seen) refl
 
 send_leads : (a : Asked) → Stands a → (r : Result (Site × Submission) SendCause) → send (site_of a) ≡ r → Leads a (sent_or_no a (refused_as send_refusal r))
 send_leads a s (Err f) e = tt
-send_leads a s (Ok r) e = one_event a s (Send a.k) _ (λ k before. refl) tt tt ((λ p. tt), (λ p. tt))
+send_leads a s (Ok r) e = one_event a s (Send a.k) _ (λ k before. refl) tt tt ((λ p. tt), (λ p. tt), (λ p. tt))
     (ap (λ x. with_sent a.k a.member x a.session) (sym e) ∙ of_member a s (λ m. with_sent a.k m (send m.site) a.session))
 
 serve_leads : (a : Asked) → Stands a → (o : Option (Session × Served)) → serve_next a.k a.member a.session ≡ o → Leads a (served_or_no o)
 serve_leads a s None e = tt
-serve_leads a s (Some r) e = one_event a s (Serve a.k) _ (λ k before. refl) tt tt ((λ p. tt), (λ p. tt))
+serve_leads a s (Some r) e = one_event a s (Serve a.k) _ (λ k before. refl) tt tt ((λ p. tt), (λ p. tt), (λ p. tt))
     (ap (after_turn a.session) (sym e) ∙ of_member a s (λ m. after_turn a.session (serve_next a.k m a.session)))
 
 take_leads : (a : Asked) → Stands a → (o : Option (Session × Taken)) → take_next a.k a.member a.session ≡ o → Leads a (taken_or_no o)
 take_leads a s None e = tt
-take_leads a s (Some r) e = one_event a s (Take a.k) _ (λ k before. refl) tt tt ((λ p. tt), (λ p. tt))
+take_leads a s (Some r) e = one_event a s (Take a.k) _ (λ k before. refl) tt tt ((λ p. tt), (λ p. tt), (λ p. tt))
     (ap (after_turn a.session) (sym e) ∙ of_member a s (λ m. after_turn a.session (take_next a.k m a.session)))
 
 abbrev MovesWell : Asked → Transaction → Type 0
-MovesWell a t = InsertsStanding t × AllPass (has_first a.page.items) (all_inserted t)
+MovesWell a t = InsertsStanding t × AllPass (has_first a.page.items) (all_inserted t) × (Says a → InsertsWritten t)
 
 table_leads : (a : Asked) → Stands a → (r : Result Transaction TableCause) → ((t : Transaction) → r ≡ Ok t → Fit t) → ((t : Transaction) → r ≡ Ok t → MovesWell a t) → Leads a (table_changed a r)
 table_leads a s r fit inserts =
-    allowed_leads a s (refused_as table_refusal r) (λ u e. fit u (given table_refusal r u e)) (λ u e. let q = inserts u (given table_refusal r u e) in ((λ p. q.0), (λ p. q.1)))
+    allowed_leads a s (refused_as table_refusal r) (λ u e. fit u (given table_refusal r u e)) (λ u e. let q = inserts u (given table_refusal r u e) in ((λ p. q.0), (λ p. q.1), q.2))
 
 list_leads : (a : Asked) → Stands a → (r : Result Transaction ListCause) → ((t : Transaction) → r ≡ Ok t → Fit t) → ((t : Transaction) → r ≡ Ok t → MovesWell a t) → Leads a (list_changed a r)
 list_leads a s r fit inserts =
-    allowed_leads a s (refused_as list_refusal r) (λ u e. fit u (given list_refusal r u e)) (λ u e. let q = inserts u (given list_refusal r u e) in ((λ p. q.0), (λ p. q.1)))
+    allowed_leads a s (refused_as list_refusal r) (λ u e. fit u (given list_refusal r u e)) (λ u e. let q = inserts u (given list_refusal r u e) in ((λ p. q.0), (λ p. q.1), q.2))
 
-change_leads : (a : Asked) → Stands a → (c : EditCommand) → IsFormed c → (AllPass may_stand a.page.items → InsertsWell c) → ChangeFirst a.page.items c → Leads a (performed_or_no a (change_on (replica_of a) c))
-change_leads a s c formed well first =
+change_leads : (a : Asked) → Stands a → (c : EditCommand) → IsFormed c → (AllPass may_stand a.page.items → InsertsWell c) → ChangeFirst a.page.items c → ChangeIsWritable c → Leads a (performed_or_no a (change_on (replica_of a) c))
+change_leads a s c formed well first says =
     allowed_leads a s (change_of (site_items a) c) (λ u e. formed_fits (site_items a) c u formed s.sound e)
-    (λ u e. ((λ p. standing_stands (site_items a) c u (well p.0) s.sound p.1 e), (λ p. change_first a.page.items (site_items a) c u first p e)))
+    (λ u e. ((λ p. standing_stands (site_items a) c u (well p.0) s.sound p.1 e), (λ p. change_first a.page.items (site_items a) c u first p e), (λ p. change_writes (site_items a) c u says p e)))
 
-edit_leads : (a : Asked) → Stands a → (c : EditCommand) → IsRead c → Leads a (performed_or_no a (change_on (replica_of a) (completed a.page.items c)))
-edit_leads a s c read =
+edit_leads : (a : Asked) → Stands a → (c : EditCommand) → IsRead c → ChangeIsWritable c → Leads a (performed_or_no a (change_on (replica_of a) (completed a.page.items c)))
+edit_leads a s c read says =
     change_leads a s (completed a.page.items c) (completed_is_formed a.page.items s.opened.apart c read) (λ p. completed_inserts_well a.page.items p c read)
-    (completed_first a.page.items c)
+    (completed_first a.page.items c) (completed_writes a.page.items c says)
 
 erased_leads : (a : Asked) → Stands a → (r : Result Selection Refusal) → Leads a (erased_or_no a r)
 erased_leads a s (Err refusal) = tt
-erased_leads a s (Ok sel) = change_leads a s (change.Remove (lower sel) (higher sel)) tt (λ p. tt) tt
+erased_leads a s (Ok sel) = change_leads a s (change.Remove (lower sel) (higher sel)) tt (λ p. tt) tt tt
 
 -- the changes of a batch, on the list of the site that is asked
-batch_puts : (a : Asked) → Stands a → (cs : List EditCommand) (ts : List Transaction) → AllFormed cs → (AllPass may_stand a.page.items → AllInsertWell cs) → AllByRecursion (ChangeFirst a.page.items) cs →
+batch_puts : (a : Asked) → Stands a → (cs : List EditCommand) (ts : List Transaction) → AllFormed cs → (AllPass may_stand a.page.items → AllInsertWell cs) → AllByRecursion (ChangeFirst a.page.items) cs → AllByRecursion ChangeIsWritable cs →
     batch_on (replica_of a) cs ≡ Ok ts → PutsAll a ts
-batch_puts a s cs ts formed well first e = (
-  (λ p. batch_inserts may_stand InsertsWell setting_keeps standing_stands 0 cs (replica_of a) ts formed (well p.0) s.sound p.1 e),
-  (λ p. batch_inserts (has_first a.page.items) (ChangeFirst a.page.items) (setting_stays a.page.items) (λ items c t w sound q h. change_first a.page.items items c t w q h) 0 cs (replica_of a) ts formed first s.sound p e),
+batch_puts a s cs ts formed well first says e = (
+  (λ p. batch_inserts may_stand any_attr InsertsWell setting_keeps (λ items c t w sound q h. puts_any may_stand t (standing_stands items c t w sound q h)) 0 cs (replica_of a) ts formed (well p.0) s.sound p.1 e),
+  (λ p. batch_inserts (has_first a.page.items) any_attr (ChangeFirst a.page.items) (setting_stays a.page.items) (λ items c t w sound q h. puts_any (has_first a.page.items) t (change_first a.page.items items c t w q h)) 0 cs (replica_of a) ts formed first s.sound p e),
+  (λ p. batch_inserts is_writable is_attr ChangeIsWritable setting_writes (λ items c t w sound q h. change_writes items c t w q h) 0 cs (replica_of a) ts formed says s.sound p e),
 )
 
 show_leads : (a : Asked) (from to : ℕ) → Leads a (items_shown_or_no a from to)
@@ -449,44 +375,44 @@ select_leads a s anchor focus = by (is_no_end (site_items a) anchor) (is_no_end 
     by false false d e = selects a s (between anchor focus) (record { anchor = stands_from (site_items a) anchor d; focus = stands_from (site_items a) focus e })
 
 tell_leads : (a : Asked) → Stands a → LeadsBy (Some a.k) a (told_outcome a)
-tell_leads a s = one_event a s (Tell a.k) _ (λ k before. refl) tt tt ((λ p. tt), (λ p. tt))
+tell_leads a s = one_event a s (Tell a.k) _ (λ k before. refl) tt tt ((λ p. tt), (λ p. tt), (λ p. tt))
     (of_member a s (λ m. events.with_site a.k m (with_told m.site) a.session))
 
-pub asked_leads : LayersFit → (a : Asked) → Stands a → (r : Request) → RequestRead r → LeadsBy (teller r a.k) a (request_outcome a r)
-asked_leads fit a s request.Html o = stays a
-asked_leads fit a s request.Tree o = stays a
-asked_leads fit a s request.Refs o = stays a
-asked_leads fit a s request.Caret o = stays a
-asked_leads fit a s request.Undo o = undo_leads a s (undo (site_of a)) refl
-asked_leads fit a s request.Redo o = redo_leads a s (redo (site_of a)) refl
-asked_leads fit a s request.Send o = send_leads a s (send (site_of a)) refl
-asked_leads fit a s request.Serve o = serve_leads a s (serve_next a.k a.member a.session) refl
-asked_leads fit a s request.Take o = take_leads a s (take_next a.k a.member a.session) refl
-asked_leads fit a s request.Tell o = tell_leads a s
-asked_leads fit a s (request.ShowItems from to) o = show_leads a from (unwrap_or to (length (site_items a)))
-asked_leads fit a s (request.At at) o = node_leads a at
-asked_leads fit a s (request.Near at dir) o = near_leads a at dir
-asked_leads fit a s (request.Edit c) o = edit_leads a s c o
-asked_leads fit a s (request.Batch cmds) o =
+pub asked_leads : LayersFit → (a : Asked) → Stands a → (r : Request) → RequestRead r → RequestIsWritable r → LeadsBy (teller r a.k) a (request_outcome a r)
+asked_leads fit a s request.Html o w = stays a
+asked_leads fit a s request.Tree o w = stays a
+asked_leads fit a s request.Refs o w = stays a
+asked_leads fit a s request.Caret o w = stays a
+asked_leads fit a s request.Undo o w = undo_leads a s (undo (site_of a)) refl
+asked_leads fit a s request.Redo o w = redo_leads a s (redo (site_of a)) refl
+asked_leads fit a s request.Send o w = send_leads a s (send (site_of a)) refl
+asked_leads fit a s request.Serve o w = serve_leads a s (serve_next a.k a.member a.session) refl
+asked_leads fit a s request.Take o w = take_leads a s (take_next a.k a.member a.session) refl
+asked_leads fit a s request.Tell o w = tell_leads a s
+asked_leads fit a s (request.ShowItems from to) o w = show_leads a from (unwrap_or to (length (site_items a)))
+asked_leads fit a s (request.At at) o w = node_leads a at
+asked_leads fit a s (request.Near at dir) o w = near_leads a at dir
+asked_leads fit a s (request.Edit c) o w = edit_leads a s c o w
+asked_leads fit a s (request.Batch cmds) o w =
     let done = map (completed a.page.items) cmds in
     let formed = all_completed_formed a.page.items s.opened.apart cmds o in
     batch_leads a s (batch_on (replica_of a) done) (λ ts e. batch_may 0 done (replica_of a) ts formed s.sound e)
-    (λ ts e. batch_puts a s done ts formed (λ p. all_completed_insert_well a.page.items p cmds o) (all_completed_first a.page.items cmds) e)
-asked_leads fit a s (request.Select anchor focus) o = select_leads a s anchor focus
-asked_leads fit a s (request.Move dir by keep) o =
+    (λ ts e. batch_puts a s done ts formed (λ p. all_completed_insert_well a.page.items p cmds o) (all_completed_first a.page.items cmds) (all_completed_write a.page.items cmds w) e)
+asked_leads fit a s (request.Select anchor focus) o w = select_leads a s anchor focus
+asked_leads fit a s (request.Move dir by keep) o w =
     moved_leads a s keep (next_place (site_items a) (replica_of a).selection.focus dir by) (λ at e. place_stands (site_items a) (replica_of a).selection.focus dir by at s.sound.lawful e)
-asked_leads fit a s (request.TypeText text) o =
+asked_leads fit a s (request.TypeText text) o w =
     let sel = (replica_of a).selection in
     let may : (ts : List Transaction) → batch_on (replica_of a) (typing sel text) ≡ Ok ts → AllMayRun ts (site_items a) =
     λ ts e. batch_may 0 (typing sel text) (replica_of a) ts (typing_formed sel text) s.sound e in
     typed_leads a s (batch_on (replica_of a) (typing sel text)) may (λ ts e. typing_after (replica_of a) sel text ts o e (may ts e))
-    (λ ts e. batch_puts a s (typing sel text) ts (typing_formed sel text) (λ p. typing_inserts_well sel text) (typing_each (ChangeFirst a.page.items) (λ at text. tt) (λ from to. tt) sel text) e)
-asked_leads fit a s (request.Erase dir by) o = erased_leads a s (to_erase (replica_of a) dir by)
-asked_leads fit a s (request.Grid at) o = grid_leads a (grid (site_items a) at)
-asked_leads fit a s (request.RowIn at row) o = table_leads a s (row_in (site_items a) at row) (λ t e. fit.moves.row_in (site_items a) at row t s.sound e) (λ t e. (fit.moves_stand.row_in (site_items a) at row t s.sound e, edit.row_in_first a.page.items (site_items a) at row t e))
-asked_leads fit a s (request.RowOut at row) o = table_leads a s (row_out (site_items a) at row) (λ t e. fit.moves.row_out (site_items a) at row t s.sound e) (λ t e. (fit.moves_stand.row_out (site_items a) at row t s.sound e, edit.row_out_first a.page.items (site_items a) at row t e))
-asked_leads fit a s (request.ColIn at column) o = table_leads a s (col_in (site_items a) at column) (λ t e. fit.moves.col_in (site_items a) at column t s.sound e) (λ t e. (fit.moves_stand.col_in (site_items a) at column t s.sound e, edit.col_in_first a.page.items (site_items a) at column t e))
-asked_leads fit a s (request.ColOut at column) o = table_leads a s (col_out (site_items a) at column) (λ t e. fit.moves.col_out (site_items a) at column t s.sound e) (λ t e. (fit.moves_stand.col_out (site_items a) at column t s.sound e, edit.col_out_first a.page.items (site_items a) at column t e))
-asked_leads fit a s (request.Indent at) o = list_leads a s (indent (site_items a) at) (λ t e. fit.moves.indent (site_items a) at t s.sound e) (λ t e. (fit.moves_stand.indent (site_items a) at t s.sound e, edit.indent_first a.page.items (site_items a) at t e))
-asked_leads fit a s (request.Outdent at) o = list_leads a s (outdent (site_items a) at) (λ t e. fit.moves.outdent (site_items a) at t s.sound e) (λ t e. (fit.moves_stand.outdent (site_items a) at t s.sound e, edit.outdent_first a.page.items (site_items a) at t e))
-asked_leads fit a s (request.Revoke entry live) o = revoked_leads a s entry live
+    (λ ts e. batch_puts a s (typing sel text) ts (typing_formed sel text) (λ p. typing_inserts_well sel text) (typing_each (ChangeFirst a.page.items) (λ at text. tt) (λ from to. tt) sel text) (typing_writable sel text w) e)
+asked_leads fit a s (request.Erase dir by) o w = erased_leads a s (to_erase (replica_of a) dir by)
+asked_leads fit a s (request.Grid at) o w = grid_leads a (grid (site_items a) at)
+asked_leads fit a s (request.RowIn at row) o w = table_leads a s (row_in (site_items a) at row) (λ t e. fit.moves.row_in (site_items a) at row t s.sound e) (λ t e. (fit.moves_stand.row_in (site_items a) at row t s.sound e, edit.row_in_first a.page.items (site_items a) at row t e, (λ p. table.row_in_writes (site_items a) at row t e)))
+asked_leads fit a s (request.RowOut at row) o w = table_leads a s (row_out (site_items a) at row) (λ t e. fit.moves.row_out (site_items a) at row t s.sound e) (λ t e. (fit.moves_stand.row_out (site_items a) at row t s.sound e, edit.row_out_first a.page.items (site_items a) at row t e, (λ p. table.row_out_writes (site_items a) at row t e)))
+asked_leads fit a s (request.ColIn at column) o w = table_leads a s (col_in (site_items a) at column) (λ t e. fit.moves.col_in (site_items a) at column t s.sound e) (λ t e. (fit.moves_stand.col_in (site_items a) at column t s.sound e, edit.col_in_first a.page.items (site_items a) at column t e, (λ p. table.col_in_writes (site_items a) at column t e)))
+asked_leads fit a s (request.ColOut at column) o w = table_leads a s (col_out (site_items a) at column) (λ t e. fit.moves.col_out (site_items a) at column t s.sound e) (λ t e. (fit.moves_stand.col_out (site_items a) at column t s.sound e, edit.col_out_first a.page.items (site_items a) at column t e, (λ p. table.col_out_writes (site_items a) at column t e)))
+asked_leads fit a s (request.Indent at) o w = list_leads a s (indent (site_items a) at) (λ t e. fit.moves.indent (site_items a) at t s.sound e) (λ t e. (fit.moves_stand.indent (site_items a) at t s.sound e, edit.indent_first a.page.items (site_items a) at t e, (λ p. table.indent_writes (site_items a) at t e)))
+asked_leads fit a s (request.Outdent at) o w = list_leads a s (outdent (site_items a) at) (λ t e. fit.moves.outdent (site_items a) at t s.sound e) (λ t e. (fit.moves_stand.outdent (site_items a) at t s.sound e, edit.outdent_first a.page.items (site_items a) at t e, (λ p. table.outdent_writes (site_items a) at t p e)))
+asked_leads fit a s (request.Revoke entry live) o w = revoked_leads a s entry live

@@ -15,7 +15,7 @@ use Rattle.model_items.specs.Same.{head_same, option_same, text_same}
 use Rattle.model_items.specs.Offsets.{stack_at}
 use Rattle.model_items.proofs.LawLemmas.{Ok-same}
 use Rattle.model_items.proofs.SameLemmas.{Means-head_same}
-use Rattle.model_change.specs.Attributes.{attrs_changed, value_of}
+use Rattle.model_change.specs.Attributes.{AttrChange, allows, attrs_changed, item_changed, value_of}
 use Rattle.model_change.specs.Transaction.{Transaction, all_inserted}
 use Rattle.model_edit.specs.Insert.{insertion, is_bad_offset, marks_before, text_pieces}
 use Rattle.model_page.specs.Elements.{is_white}
@@ -27,7 +27,8 @@ use Rattle.model_page_law.specs.Origins.{origins_of}
 use Rattle.model_spelling.specs.Faults.{ForestFault, fault_of}
 use Rattle.model_spelling.specs.Forest.{Forest}
 use Rattle.model_spelling.specs.Parsed.{forest_of}
-use Rattle.model_site_law.specs.ItemLaws.{SettingKeeps}
+use Rattle.model_site_law.specs.ItemLaws.{SettingKeeps, any_attr}
+use Rattle.model_site_law.proofs.ItemLemmas.{any_keeps}
 use Rattle.model_world.specs.Completed.{all_completed, completed, head_for, item_completed, op_completed, read_for}
 use Rattle.model_world.specs.Edits.{built_transaction, change_of, forest_inserted, fragment_inserted, needs, ops_on, text_inserted, text_typed, transaction_of_ops}
 use Rattle.model_world.specs.Refusals.{build_refusal, html_refusal}
@@ -53,11 +54,11 @@ either_true false c h = cc
 
 module _ (opened : List PlainItem) where
   -- an attribute may be set of elements alone
-  pub setting_stays : SettingKeeps (has_first opened)
-  setting_stays c (Char ch marks) h f = cc
-  setting_stays c (Closing kind pre) h f = cc
-  setting_stays c (Opening kind head marks pre None generated) h f = refl
-  setting_stays c (Opening kind head marks pre (Some origin) generated) h f =
+  setting_first : (c : AttrChange) (item : PlainItem) → allows c item ≡ true → has_first opened item ≡ true → has_first opened (item_changed c item) ≡ true
+  setting_first c (Char ch marks) h f = cc
+  setting_first c (Closing kind pre) h f = cc
+  setting_first c (Opening kind head marks pre None generated) h f = refl
+  setting_first c (Opening kind head marks pre (Some origin) generated) h f =
       of_element (record { tag = head.tag; attrs = attrs_changed c.name c.kept c.from c.to head.attrs; raw = head.raw; reference = head.reference; owner = head.owner })
       (read_for origin opened) (and_parts (is_element kind) (option_same text_same (value_of c.name head.attrs) c.from && _) h).0 f
     where
@@ -66,6 +67,9 @@ module _ (opened : List PlainItem) where
       of_element new (Some first) e f =
           and_from (kind_same kind first.0) (is_element kind || head_same new first.1) (and_parts (kind_same kind first.0) (is_element kind || head_same head first.1) f).0
           (either_true (is_element kind) (head_same new first.1) e)
+
+  pub setting_stays : SettingKeeps (has_first opened) any_attr
+  setting_stays = any_keeps (has_first opened) setting_first
 
   -- ---- fragments
 

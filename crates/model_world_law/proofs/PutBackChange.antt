@@ -1,10 +1,10 @@
 -- What was read of items that were shown is completed to these items, and so a range that is removed
 -- and put back leaves the list as it is.
-use Rattle.std.proofs.Common.{◌≡◌, ℕ, zero, suc, ◌+◌, ◌-◌, ◌<◌, ◌≤◌, nat_lt, Bool, true, false, not, ◌&&◌, ◌||◌, if◌then◌else◌, List, [], ◌∷◌, ◌++◌, length, map, take, drop, slice_range, Option, Some, None, Result, Ok, Err, refl, sym, ap, ◌∙◌, arith}
+use Rattle.std.proofs.Common.{◌≡◌, ℕ, zero, suc, ◌+◌, ◌-◌, ◌<◌, ◌≤◌, nat_lt, Bool, true, false, not, ◌&&◌, ◌||◌, if◌then◌else◌, List, [], ◌∷◌, ◌++◌, length, map, take, drop, Option, Some, None, Result, Ok, Err, refl, sym, ap, ◌∙◌, arith}
 use Rattle.std.specs.Prelude.{codes, option_and_then, option_map}
 use Rattle.std.specs.List.{AllByRecursion}
 use Rattle.std.proofs.lemmas.Bool.{and_parts, eq-eqb, lt-ltb}
-use Rattle.std.proofs.lemmas.List.{take-append-drop}
+use Rattle.std.proofs.lemmas.List.{append-nil, drop-drop, length-drop, length-map, length-take-le, take-append-drop}
 use Rattle.serde_json.specs.Data.{Data, no_members, object, put}
 use Rattle.ve_base.specs.declared.head.Head.{Head}
 use Rattle.ve_kinds.specs.declared.kind.Kind.{Kind}
@@ -15,7 +15,10 @@ use Rattle.model_items.specs.Same.{head_same}
 use Rattle.model_site_law.specs.ItemLaws.{AllPass}
 use Rattle.model_items.specs.declared.plain_item.PlainItem.{PlainItem}
 use Rattle.model_items.specs.declared.plain_item.PlainItem.TheVariants.{Char, Opening, Closing}
-use Rattle.model_change.specs.Transaction.{Transaction, edited}
+use Rattle.ve_base.specs.Limits.{max_items}
+use Rattle.model_change.specs.Store.{brought, cited}
+use Rattle.model_change.specs.Transaction.{Transaction, edited, old_length}
+use Rattle.model_change.proofs.Fits.{Fits}
 use Rattle.model_world.specs.declared.edit_command.OpWords.{OpWords}
 use Rattle.model_world.specs.declared.edit_command.OpWords.TheVariants.{Retain, Remove}
 use Rattle.model_world.specs.declared.edit_command.EditCommand.{EditCommand}
@@ -28,11 +31,10 @@ use Rattle.model_world.specs.Operations.{op_in, word_is_something, words_are_nor
 use Rattle.model_world.specs.ItemWords.{all_items_in}
 use Rattle.model_world.specs.Shown.{items_shown, json_number}
 use Rattle.model_world.specs.Values.{all_read, number_in, such_that}
-use Rattle.model_world_law.specs.PutBack.{CanPutBack, has_first, is_as_read, PutBackStays, WorldsPutBack, retained_shown, without_head}
+use Rattle.model_world_law.specs.PutBack.{CanPutBack, IsPut, has_first, is_as_read, PutBackStays, retained_shown, without_head}
 use Rattle.model_world_law.specs.ShownLaws.{plain_head}
 use Rattle.model_page.proofs.OnLiterals.{page_on_literals}
 use Rattle.model_world_law.proofs.ShownLemmas.{listed_back, passes}
-use Rattle.model_world_law.proofs.ReachLemmas.{origins_stay}
 use Rattle.model_world_law.proofs.PutBackLemmas.{exact_is_read, head_read}
 
 -- ---- items completed
@@ -185,13 +187,12 @@ past_taken zero items = refl
 past_taken (suc n) [] = refl
 past_taken (suc n) (item ∷ items) = past_taken n items
 
-put_back_edits : (count n : ℕ) (items : List PlainItem) → edited (ops_on (Remove count (take count items) ∷ retained n) items) items ≡ items
-put_back_edits count n items =
-    ap (λ xs. take count items ++ edited (ops_on (retained n) (drop count items)) xs) (past_taken count items)
-    ∙ ap (λ xs. take count items ++ xs) (edits_nothing n (drop count items))
-    ∙ take-append-drop count items
+past_gone : (count n : ℕ) (range items : List PlainItem) → edited (ops_on (Remove count range ∷ retained n) items) items ≡ range ++ drop count items
+past_gone count n range items =
+    ap (λ xs. range ++ edited (ops_on (retained n) (drop count items)) xs) (past_taken count items)
+    ∙ ap (λ xs. range ++ xs) (edits_nothing n (drop count items))
 
-normal_from : (n count m : ℕ) (read : List PlainItem) → 0 < count → words_are_normal (retained n ++ (Remove count read ∷ retained m)) ≡ true
+normal_from : (n count m : ℕ) (read : List PlainItem) → 0 < count + length read → words_are_normal (retained n ++ (Remove count read ∷ retained m)) ≡ true
 normal_from n count m read some = by n m (lt-ltb 0 (count + length read) (omega (arith, some)))
   where
     more : (k : ℕ) → nat_lt 0 (suc k) ≡ true
@@ -203,27 +204,68 @@ normal_from n count m read some = by n m (lt-ltb 0 (count + length read) (omega 
     by (suc n) zero h = λ i. more n i && (true && (h i && (true && true)))
     by (suc n) (suc m) h = λ i. more n i && (true && (h i && (true && (more m i && (true && true)))))
 
-pub put_back_stays : PutBackStays
-put_back_stays opened items from to few some within can first =
-    let range = slice_range items from to in
+-- ---- it applies, and brings no value but those of the range
+
+fits_only : (n : ℕ) (items others : List PlainItem) → Fits (ops_on (retained n) items) others
+fits_only zero items others = tt
+fits_only (suc n) items others = tt
+
+fits_gone : (count n : ℕ) (range items : List PlainItem) → Fits (ops_on (Remove count range ∷ retained n) items) items
+fits_gone count n range items =
+    (sym (take-append-drop count items) ∙ ap (λ xs. take count items ++ xs) (sym (past_taken count items)), fits_only n (drop count items) (drop (length (take count items)) items))
+
+fits_more : (n : ℕ) (ops : List OpWords) (items : List PlainItem) → Fits (ops_on ops (drop n items)) (drop n items) → Fits (ops_on (retained n ++ ops) items) items
+fits_more zero ops items f = f
+fits_more (suc n) ops items f = f
+
+length_only : (n : ℕ) (items : List PlainItem) → old_length (ops_on (retained n) items) ≡ n
+length_only zero items = refl
+length_only (suc n) items = omega arith
+
+length_more : (n : ℕ) (ops : List OpWords) (items : List PlainItem) → old_length (ops_on (retained n ++ ops) items) ≡ n + old_length (ops_on ops (drop n items))
+length_more zero ops items = omega arith
+length_more (suc n) ops items = refl
+
+brings_gone : (count n : ℕ) (range items : List PlainItem) → brought (ops_on (Remove count range ∷ retained n) items) items ≡ cited range
+brings_gone count zero range items = append-nil (cited (range ++ [])) ∙ ap cited (append-nil range)
+brings_gone count (suc n) range items = append-nil (cited (range ++ [])) ∙ ap cited (append-nil range)
+
+brings_more : (n : ℕ) (ops : List OpWords) (items : List PlainItem) → brought (ops_on (retained n ++ ops) items) items ≡ brought (ops_on ops (drop n items)) (drop n items)
+brings_more zero ops items = refl
+brings_more (suc n) ops items = refl
+
+-- the transaction besides
+pub record Puts (opened items range : List PlainItem) (at count : ℕ) (result : List PlainItem) : Type 0 where
+  pub put : IsPut opened items range at count result
+  pub long : old_length put.t ≡ length items
+  pub fits : Fits put.t items
+  pub brings : brought put.t items ≡ cited range
+
+length-without : (items : List PlainItem) → length (map without_head items) ≡ length items
+length-without items = length-map items without_head
+
+pub puts : (opened items range : List PlainItem) (at count : ℕ) → length items ≤ max_items → at + count ≤ length items → 0 < count + length range → AllByRecursion CanPutBack range →
+    AllPass (has_first opened) range → Puts opened items range at count (take at items ++ (range ++ drop (at + count) items))
+puts opened items range at count few within some can first =
     let read = map without_head range in
-    let count = to - from in
-    let last = length items - to in
-    let ops = retained from ++ (Remove count read ∷ retained last) in
-    let done = retained from ++ (Remove count range ∷ retained last) in
+    let last = length items - (at + count) in
+    let ops = retained at ++ (Remove count read ∷ retained last) in
+    let done = retained at ++ (Remove count range ∷ retained last) in
     let number : (n : ℕ) → n ≤ length items → IsNumber n = λ n less. lt-ltb n 4294967296 (omega (arith, less, few)) in
     let whole : all_completed (op_completed opened) ops ≡ Ok done =
-    retained_back opened from (Remove count read ∷ retained last) (Remove count range ∷ retained last) (removed_back opened count last read range (all_back opened range can first)) in
-    let long : needs done ≡ length items = omega (arith, needs_more from (Remove count range ∷ retained last), needs_only last, some, within) in
-    let values : List Data = retained_shown from ++ (replaced_shown count range ∷ retained_shown last) in
+    retained_back opened at (Remove count read ∷ retained last) (Remove count range ∷ retained last) (removed_back opened count last read range (all_back opened range can first)) in
+    let long : needs done ≡ length items = omega (arith, needs_more at (Remove count range ∷ retained last), needs_only last, within) in
+    let values : List Data = retained_shown at ++ (replaced_shown count range ∷ retained_shown last) in
     let are : Backs values ops =
-    retained_more from (replaced_shown count range ∷ retained_shown last) (Remove count read ∷ retained last) (number from (omega (arith, some, within)))
-    (op_more (replaced_shown count range) (retained_shown last) (Remove count read) (retained last) (replaced_back count range read (number count (omega (arith, some, within))) (exact_is_read range can))
+    retained_more at (replaced_shown count range ∷ retained_shown last) (Remove count read ∷ retained last) (number at (omega (arith, within)))
+    (op_more (replaced_shown count range) (retained_shown last) (Remove count read) (retained last) (replaced_back count range read (number count (omega (arith, within))) (exact_is_read range can))
     (retained_last last (number last (omega arith)))) in
-    record {
+    let last_op = Remove count range ∷ retained last in
+    let taken = length-take-le count (drop at items) (omega (arith, length-drop at items, within)) in
+    let put : IsPut opened items range at count (take at items ++ (range ++ drop (at + count) items)) = record {
       ops = ops;
       reads = ap (λ xs. such_that words_are_normal (all_read (op_in true) xs)) (listed_back values) ∙ ap (such_that words_are_normal) are
-          ∙ passes words_are_normal ops (normal_from from count last read (omega (arith, some)));
+          ∙ passes words_are_normal ops (normal_from at count last read (omega (arith, some, length-without range)));
       t = ops_on done items;
       gives = ap (λ r. change_of items (elim r as (λ _. EditCommand) [
         | Err origin ↦ change.NoOrigin origin
@@ -233,21 +275,15 @@ put_back_stays opened items from to few some within can first =
             | true ↦ Ok (ops_on done items)
             | false ↦ Err (BadLength (length items) (needs done))
           ]) (eq-eqb (needs done) (length items) long);
-      list = edits_more from (Remove count range ∷ retained last) items ∙ ap (λ xs. take from items ++ xs) (put_back_edits count last (drop from items)) ∙ take-append-drop from items;
+      list = edits_more at (Remove count range ∷ retained last) items
+          ∙ ap (λ xs. take at items ++ xs) (past_gone count last range (drop at items) ∙ ap (λ xs. range ++ xs) (drop-drop count at items));
+    } in
+    record {
+      put = put;
+      long = length_more at last_op items ∙ omega (arith, taken, length_only last (drop count (drop at items)), within);
+      fits = fits_more at last_op items (fits_gone count last range (drop at items));
+      brings = brings_more at last_op items ∙ brings_gone count last range (drop at items);
     }
 
-pub worlds_put_back : WorldsPutBack
-worlds_put_back lines page w k m from to h e few some within can =
-    let items = m.site.replica.items in
-    put_back_stays page.items items from to few some within can (part from (to - from) items (origins_stay lines page w k m h e))
-  where
-    passed_first : (n : ℕ) (items : List PlainItem) → AllPass (has_first page.items) items → AllPass (has_first page.items) (take n items)
-    passed_first zero items p = tt
-    passed_first (suc n) [] p = tt
-    passed_first (suc n) (item ∷ items) p = (p.0, passed_first n items p.1)
-
-    part : (n count : ℕ) (items : List PlainItem) → AllPass (has_first page.items) items → AllPass (has_first page.items) (take count (drop n items))
-    part zero count items p = passed_first count items p
-    part (suc n) zero [] p = tt
-    part (suc n) (suc count) [] p = tt
-    part (suc n) count (item ∷ items) p = part n count items p.1
+pub put_back_stays : PutBackStays
+put_back_stays opened items range at count few within some can first = (puts opened items range at count few within some can first).put

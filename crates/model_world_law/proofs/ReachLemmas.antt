@@ -39,13 +39,14 @@ use Rattle.model_world.specs.World.{World, Closed, Open, Answer, opened_or_no, o
 use Rattle.model_world_law.specs.Fit.{RequestRead, LayersFit}
 use Rattle.model_world_law.specs.Reached.{Becomes, IsReached, WorldReached, EveryItemStands, EveryWorldIsReached, SiteHolds, EverySiteHolds, SitesMeet, QuietSitesMeet, UneditedIsWrittenBack}
 use Rattle.std.specs.List.{AllByRecursion}
-use Rattle.model_site_law.specs.ItemLaws.{AllPass, Inserts}
+use Rattle.model_site_law.specs.ItemLaws.{AllPass, Inserts, any_attr}
 use Rattle.model_site_law.specs.Protocol.{Every}
 use Rattle.model_site_law.proofs.HintLemmas.{hints_stand_beside}
 use Rattle.model_site_law.proofs.ItemLemmas.{items_keep}
 use Rattle.model_world_law.specs.Standing.{may_stand}
 use Rattle.model_world_law.specs.PutBack.{OriginsStay, has_first}
 use Rattle.model_world_law.specs.ViewLines.{teller}
+use Rattle.ve_base.specs.declared.attrs.Attr.{Attr}
 use Rattle.model_items.specs.declared.plain_item.PlainItem.{PlainItem}
 use Rattle.model_world_law.proofs.FirstOrigins.{page_first}
 use Rattle.model_world_law.proofs.OriginChanges.{setting_stays}
@@ -53,6 +54,10 @@ use Rattle.model_world_law.proofs.ChangeStand.{changes_stand, moves_stand, pages
 use Rattle.model_world_law.proofs.StandLemmas.{setting_keeps}
 use Rattle.model_world_law.proofs.LinkLemmas.{Stands, LeadsBy, asked_leads}
 use Rattle.model_world_law.proofs.WrittenLemmas.{lines_are_written}
+use Rattle.model_world_law.specs.Writable.{EveryItemIsWritable, RequestIsWritable, is_attr, is_writable}
+use Rattle.model_world_law.proofs.WritableLemmas.{setting_writes}
+use Rattle.model_world_law.proofs.WritableLines.{lines_are_writable}
+use Rattle.model_world_law.proofs.WritablePages.{pages_writable}
 use Rattle.model_world_law.proofs.ChangeLemmas.{given, changes_fit, pages_are_sound}
 use Rattle.model_world_law.proofs.BuilderLemmas.{moves_fit}
 use Rattle.model_world_law.proofs.CompletedLemmas.{completed_fit}
@@ -69,9 +74,9 @@ within-append : (es fs : List Event) (w : Session) → AllSelectWithin w es → 
 within-append [] fs w p q = q
 within-append (e ∷ es) fs w p q = (p.0, within-append es fs (happens w e) p.1 q)
 
-inserts-append : (test : PlainItem → Bool) (es fs : List Event) → AllByRecursion (Inserts test) es → AllByRecursion (Inserts test) fs → AllByRecursion (Inserts test) (es ++ fs)
-inserts-append test [] fs p q = q
-inserts-append test (e ∷ es) fs p q = (p.0, inserts-append test es fs p.1 q)
+inserts-append : (test : PlainItem → Bool) (sets : Attr → Bool) (es fs : List Event) → AllByRecursion (Inserts test sets) es → AllByRecursion (Inserts test sets) fs → AllByRecursion (Inserts test sets) (es ++ fs)
+inserts-append test sets [] fs p q = q
+inserts-append test sets (e ∷ es) fs p q = (p.0, inserts-append test sets es fs p.1 q)
 
 every_from : (P : Member → Type 0) (ms : List Member) → ((k : ℕ) (m : Member) → slice_get ms k ≡ Some m → P m) → Every P ms
 every_from P [] h = tt
@@ -80,13 +85,19 @@ every_from P (m ∷ ms) h = (h 0 m refl, every_from P ms (λ k n e. h (suc k) n 
 -- the items of each site may stand
 reached_stand : (lines : List (List ℕ)) (o : Opened) (w : Session) (k : ℕ) (m : Member) → IsReached lines o w → slice_get w.members k ≡ Some m → IsUtf8 o.page → AllPass may_stand m.site.replica.items
 reached_stand lines o w k m r e u =
-    items_keep may_stand (opened_with o.items) r.sites r.events k m setting_keeps r.opens r.may (pages_stand r.text o u r.opened) (r.inserts u)
+    items_keep may_stand any_attr (opened_with o.items) r.sites r.events k m setting_keeps r.opens r.may (pages_stand r.text o u r.opened) (r.inserts u)
     (ap (λ (v : Session). slice_get v.members k) (sym r.same) ∙ e)
 
 -- each opening with an origin is the page's
 reached_first : (lines : List (List ℕ)) (o : Opened) (w : Session) (k : ℕ) (m : Member) → IsReached lines o w → slice_get w.members k ≡ Some m → AllPass (has_first o.items) m.site.replica.items
 reached_first lines o w k m r e =
-    items_keep (has_first o.items) (opened_with o.items) r.sites r.events k m (setting_stays o.items) r.opens r.may (page_first r.text o r.opened) r.origins
+    items_keep (has_first o.items) any_attr (opened_with o.items) r.sites r.events k m (setting_stays o.items) r.opens r.may (page_first r.text o r.opened) r.origins
+    (ap (λ (v : Session). slice_get v.members k) (sym r.same) ∙ e)
+
+-- a line can write the items of each site
+reached_writes : (lines : List (List ℕ)) (o : Opened) (w : Session) (k : ℕ) (m : Member) → IsReached lines o w → slice_get w.members k ≡ Some m → IsUtf8 o.page → AllPass is_writable m.site.replica.items
+reached_writes lines o w k m r e u =
+    items_keep is_writable is_attr (opened_with o.items) r.sites r.events k m setting_writes r.opens r.may (pages_writable r.text o u r.opened) (r.writes u)
     (ap (λ (v : Session). slice_get v.members k) (sym r.same) ∙ e)
 
 -- the base has the page's items, which may stand
@@ -116,17 +127,18 @@ further past line o w next r b =
       opens = r.opens;
       may = may-append r.events b.events start r.may (subst (λ v. AllMayHappen v b.events) r.same b.may);
       within = within-append r.events b.events start r.within (subst (λ v. AllSelectWithin v b.events) r.same b.within);
-      inserts = λ u. inserts-append may_stand r.events b.events (r.inserts u) (b.inserts (base_stands past o w r u) (every_from (λ m. AllPass may_stand m.site.replica.items) w.members (λ k m e. reached_stand past o w k m r e u)));
-      origins = inserts-append (has_first o.items) r.events b.events r.origins
-          (subst (λ items. Every (λ m. AllPass (has_first items) m.site.replica.items) w.members → AllByRecursion (Inserts (has_first items)) b.events) (base_items past o w r) b.origins
+      inserts = λ u. inserts-append may_stand any_attr r.events b.events (r.inserts u) (b.inserts (base_stands past o w r u) (every_from (λ m. AllPass may_stand m.site.replica.items) w.members (λ k m e. reached_stand past o w k m r e u)));
+      origins = inserts-append (has_first o.items) any_attr r.events b.events r.origins
+          (subst (λ items. Every (λ m. AllPass (has_first items) m.site.replica.items) w.members → AllByRecursion (Inserts (has_first items) any_attr) b.events) (base_items past o w r) b.origins
           (every_from (λ m. AllPass (has_first o.items) m.site.replica.items) w.members (λ k m e. reached_first past o w k m r e)));
+      writes = λ u. inserts-append is_writable is_attr r.events b.events (r.writes u) (b.writes (every_from (λ m. AllPass is_writable m.site.replica.items) w.members (λ k m e. reached_writes past o w k m r e u)));
       same = same;
     }
 
 -- a line that changes nothing
 unchanged : (past : List (List ℕ)) (line : List ℕ) (w : World) → WorldReached past w → WorldReached (past ++ line ∷ []) w
 unchanged past line Closed reached = tt
-unchanged past line (Open o w) reached = further {t = None} past line o w w reached (record { events = []; may = tt; within = tt; inserts = λ base every. tt; origins = λ every. tt; told = λ k before. refl; same = refl })
+unchanged past line (Open o w) reached = further {t = None} past line o w w reached (record { events = []; may = tt; within = tt; inserts = λ base every. tt; origins = λ every. tt; writes = λ every. tt; told = λ k before. refl; same = refl })
 
 -- the site that is asked stands
 pub site_stands : (past : List (List ℕ)) (o : Opened) (w : Session) (k : ℕ) (m : Member) → IsReached past o w → slice_get w.members k ≡ Some m →
@@ -153,17 +165,17 @@ page_reached : (t : Option ℕ) (past : List (List ℕ)) (line : List ℕ) (o : 
 page_reached t past line o w reached a e (Ok r) b = further past line o w r.1 reached (subst (λ v. Becomes t v r.1) e b)
 page_reached t past line o w reached a e (Err r) b = tt
 
-member_reached : LayersFit → (past : List (List ℕ)) (line : List ℕ) (o : Opened) (w : Session) → IsReached past o w → (r : Request) (k : ℕ) → RequestRead r →
+member_reached : LayersFit → (past : List (List ℕ)) (line : List ℕ) (o : Opened) (w : Session) → IsReached past o w → (r : Request) (k : ℕ) → RequestRead r → RequestIsWritable r →
     (x : Option Member) → slice_get w.members k ≡ x → AnswerReached (past ++ line ∷ []) (asked_of o w r k x)
-member_reached fit past line o w reached r k written None e = tt
-member_reached fit past line o w reached r k written (Some m) e =
+member_reached fit past line o w reached r k written says None e = tt
+member_reached fit past line o w reached r k written says (Some m) e =
     let a : Asked = record { page = o; session = w; k = k; member = m } in
-    page_reached (teller r k) past line o w reached a refl (request_outcome a r) (asked_leads fit a (site_stands past o w k m reached e) r written)
+    page_reached (teller r k) past line o w reached a refl (request_outcome a r) (asked_leads fit a (site_stands past o w k m reached e) r written says)
 
-ask_reached : LayersFit → (past : List (List ℕ)) (line : List ℕ) (w : World) → WorldReached past w → (r : Request) (k : ℕ) → RequestRead r →
+ask_reached : LayersFit → (past : List (List ℕ)) (line : List ℕ) (w : World) → WorldReached past w → (r : Request) (k : ℕ) → RequestRead r → RequestIsWritable r →
     AnswerReached (past ++ line ∷ []) (answer_of w (Ask r k))
-ask_reached fit past line Closed reached r k written = tt
-ask_reached fit past line (Open o w) reached r k written = member_reached fit past line o w reached r k written (slice_get w.members k) refl
+ask_reached fit past line Closed reached r k written says = tt
+ask_reached fit past line (Open o w) reached r k written says = member_reached fit past line o w reached r k written says (slice_get w.members k) refl
 
 open_reached : LayersFit → (past : List (List ℕ)) (line page : List ℕ) (sites : ℕ) → command line ≡ Ok (OpenPage page sites) → (x : Result Opened Refusal) → open_page page ≡ x →
     AnswerReached (past ++ line ∷ []) (opened_or_no sites x)
@@ -184,6 +196,7 @@ open_reached fit past line page sites c (Ok o) e = record {
   within = tt;
   inserts = λ u. tt;
   origins = tt;
+  writes = λ u. tt;
   same = refl;
 }
 
@@ -191,7 +204,7 @@ command_reached : LayersFit → (past : List (List ℕ)) (w : World) → WorldRe
     AnswerReached (past ++ line ∷ []) (answered_if w x)
 command_reached fit past w reached line (Err r) e = tt
 command_reached fit past w reached line (Ok (OpenPage page sites)) e = open_reached fit past line page sites e (open_page page) refl
-command_reached fit past w reached line (Ok (Ask r k)) e = ask_reached fit past line w reached r k (fit.lines line r k e)
+command_reached fit past w reached line (Ok (Ask r k)) e = ask_reached fit past line w reached r k (fit.lines line r k e) (lines_are_writable line r k e)
 
 line_reached : LayersFit → (past : List (List ℕ)) (w : World) → WorldReached past w → (line : List ℕ) → AnswerReached (past ++ line ∷ []) (answer w line)
 line_reached fit past w reached line = by_length (nat_lt max_line (length line))
@@ -258,6 +271,9 @@ site_holds lines o w k m r e =
 
 pub every_item_stands : EveryItemStands
 every_item_stands lines page w k m h e u = reached_stand lines page w k m (subst (WorldReached lines) h (every_world_is_reached lines)) e u
+
+pub every_item_is_writable : EveryItemIsWritable
+every_item_is_writable lines page w k m h e u = reached_writes lines page w k m (subst (WorldReached lines) h (every_world_is_reached lines)) e u
 
 pub origins_stay : OriginsStay
 origins_stay lines page w k m h e = reached_first lines page w k m (subst (WorldReached lines) h (every_world_is_reached lines)) e

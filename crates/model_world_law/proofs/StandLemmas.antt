@@ -17,7 +17,7 @@ use Rattle.model_items.specs.declared.plain_item.PlainItem.TheVariants.{Char, Cl
 use Rattle.model_items.specs.Law.{Lawful, after, finish, start, top}
 use Rattle.model_items.specs.Offsets.{openings_at, stack_at}
 use Rattle.model_items.proofs.LawLemmas.{after_from_Lawful, after_parts}
-use Rattle.model_change.specs.Attributes.{attr_removed, attrs_changed, value_of}
+use Rattle.model_change.specs.Attributes.{AttrChange, allows, attr_removed, attrs_changed, item_changed, value_of}
 use Rattle.model_items.specs.Same.{option_same, text_same}
 use Rattle.model_edit.specs.Brackets.{closing_for, copy_of, is_internal, opening_of}
 use Rattle.model_edit.specs.Edits.{Change, Edit, Set}
@@ -27,7 +27,8 @@ use Rattle.model_edit_law.proofs.BracketLemmas.{Openings, Openings-after, fits, 
 use Rattle.model_edit_law.proofs.InsertLemmas.{Openings-take}
 use Rattle.model_page.specs.Editable.{head_refers, item_refers}
 use Rattle.model_page_law.proofs.MadeRefers.{Other, element-other, other_refers}
-use Rattle.model_site_law.specs.ItemLaws.{AllPass, SettingKeeps}
+use Rattle.model_site_law.specs.ItemLaws.{AllPass, SettingKeeps, any_attr}
+use Rattle.model_site_law.proofs.ItemLemmas.{any_keeps}
 use Rattle.model_world_law.specs.Standing.{has_few_marks, may_stand}
 
 abbrev pub Stands : PlainItem → Type 0
@@ -67,13 +68,16 @@ pub plain_stands : (kind : Kind) (attrs : List Attr) → Other kind → Stands (
 plain_stands kind attrs o = opening_stands kind (record { tag = []; attrs = attrs; raw = []; reference = None; owner = false }) [] [] None false o refl
 
 -- an attribute may be set of elements alone
-pub setting_keeps : SettingKeeps may_stand
-setting_keeps c (Char ch marks) h s = cc
-setting_keeps c (Closing kind pre) h s = cc
-setting_keeps c (Opening kind head marks pre origin generated) h s =
+setting_stands : (c : AttrChange) (item : PlainItem) → allows c item ≡ true → Stands item → Stands (item_changed c item)
+setting_stands c (Char ch marks) h s = cc
+setting_stands c (Closing kind pre) h s = cc
+setting_stands c (Opening kind head marks pre origin generated) h s =
     opening_stands kind (record { tag = head.tag; attrs = attrs_changed c.name c.kept c.from c.to head.attrs; raw = head.raw; reference = head.reference; owner = head.owner }) marks pre origin generated
     (element-other kind (and_parts (is_element kind) (option_same text_same (value_of c.name head.attrs) c.from && _) h).0)
     (few_of (Opening kind head marks pre origin generated) s)
+
+pub setting_keeps : SettingKeeps may_stand any_attr
+setting_keeps = any_keeps may_stand setting_stands
 
 -- ---- open nodes, closed and opened again
 

@@ -24,6 +24,8 @@ use Rattle.model_world.specs.World.{Answer, World, Closed, Open, answer, answer_
 use Rattle.model_world_law.specs.Fit.{LayersFit, RequestRead}
 use Rattle.model_world_law.specs.Reached.{IsReached, WorldReached, told_if}
 use Rattle.model_world_law.specs.ViewLines.{LinesShow, teller, told_at_line, told_if_accepted, told_if_read, told_last_line}
+use Rattle.model_world_law.specs.Writable.{RequestIsWritable}
+use Rattle.model_world_law.proofs.WritableLines.{lines_are_writable}
 use Rattle.model_world_law.proofs.LinkLemmas.{LeadsBy, asked_leads}
 use Rattle.model_world_law.proofs.ReachLemmas.{layers_fit, reply_reached, site_stands}
 
@@ -48,17 +50,17 @@ module _ (k : ℕ) where
       (subst (λ (v : Session). Of k (told_last k a.session b.events last) v.members) (sym b.same)
       (run_leads k b.events a.session last (session_holds past o a.session reached) all b.may))
 
-  member_leads : LayersFit → (past : List (List ℕ)) (o : Opened) (w : Session) (last : List PlainItem) → IsReached past o w → Of k last w.members → (r : Request) (j : ℕ) → RequestRead r →
+  member_leads : LayersFit → (past : List (List ℕ)) (o : Opened) (w : Session) (last : List PlainItem) → IsReached past o w → Of k last w.members → (r : Request) (j : ℕ) → RequestRead r → RequestIsWritable r →
       (x : Option Member) → slice_get w.members j ≡ x → AnswerLeads (asked_of o w r j x) (told_if (teller r j) k w last)
-  member_leads fit past o w last reached all r j written None e = tt
-  member_leads fit past o w last reached all r j written (Some m) e =
+  member_leads fit past o w last reached all r j written says None e = tt
+  member_leads fit past o w last reached all r j written says (Some m) e =
       let a : Asked = record { page = o; session = w; k = j; member = m } in
-      outcome_leads past o a (teller r j) last reached all (request_outcome a r) (asked_leads fit a (site_stands past o w j m reached e) r written)
+      outcome_leads past o a (teller r j) last reached all (request_outcome a r) (asked_leads fit a (site_stands past o w j m reached e) r written says)
 
-  ask_leads : LayersFit → (past : List (List ℕ)) (w : World) (last : List PlainItem) → WorldReached past w → WorldLeads w last → (r : Request) (j : ℕ) → RequestRead r →
+  ask_leads : LayersFit → (past : List (List ℕ)) (w : World) (last : List PlainItem) → WorldReached past w → WorldLeads w last → (r : Request) (j : ℕ) → RequestRead r → RequestIsWritable r →
       AnswerLeads (answer_of w (Ask r j)) (told_if_read k w (Ok (Ask r j)) last)
-  ask_leads fit past Closed last reached all r j written = tt
-  ask_leads fit past (Open o w) last reached all r j written = member_leads fit past o w last reached all r j written (slice_get w.members j) refl
+  ask_leads fit past Closed last reached all r j written says = tt
+  ask_leads fit past (Open o w) last reached all r j written says = member_leads fit past o w last reached all r j written says (slice_get w.members j) refl
 
   open_leads : (sites : ℕ) (x : Result Opened Refusal) → AnswerLeads (opened_or_no sites x) []
   open_leads sites (Err r) = tt
@@ -68,7 +70,7 @@ module _ (k : ℕ) where
       AnswerLeads (answered_if w x) (told_if_read k w x last)
   command_leads fit past w last reached all line (Err r) e = tt
   command_leads fit past w last reached all line (Ok (OpenPage page sites)) e = open_leads sites (open_page page)
-  command_leads fit past w last reached all line (Ok (Ask r j)) e = ask_leads fit past w last reached all r j (fit.lines line r j e)
+  command_leads fit past w last reached all line (Ok (Ask r j)) e = ask_leads fit past w last reached all r j (fit.lines line r j e) (lines_are_writable line r j e)
 
   line_leads : LayersFit → (past : List (List ℕ)) (w : World) (last : List PlainItem) → WorldReached past w → WorldLeads w last → (line : List ℕ) →
       AnswerLeads (answer w line) (told_if_read k w (command line) last)

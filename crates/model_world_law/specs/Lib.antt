@@ -9,3 +9,4 @@ pub mod Redone
 pub mod Pasted
 pub mod AheadLaws
 pub mod PutBack
+pub mod Writable

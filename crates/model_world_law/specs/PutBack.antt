@@ -1,6 +1,6 @@
 -- Items put back as they were shown: a line with `exact` reads them, and what it doesn't say of a
 -- leaf that no tag spells comes from the page as it was first read.
-use Rattle.std.specs.Prelude.{◌≡◌, ◌<◌, ◌≤◌, ◌-◌, ℕ, zero, suc, Bool, true, false, not, ◌&&◌, ◌||◌, nat_lt, if◌then◌else◌, List, [], ◌∷◌, ◌++◌, length, map, slice_get, slice_range, codes, Option, Some, None, Ok}
+use Rattle.std.specs.Prelude.{◌≡◌, ◌<◌, ◌≤◌, ◌+◌, ◌-◌, ℕ, zero, suc, Bool, true, false, not, ◌&&◌, ◌||◌, nat_lt, if◌then◌else◌, List, [], ◌∷◌, ◌++◌, length, map, take, drop, slice_get, codes, Option, Some, None, Ok}
 use Rattle.std.specs.List.{AllByRecursion}
 use Rattle.serde_json.specs.Data.{Data, no_members, object, put}
 use Rattle.ve_base.specs.Limits.{max_items}
@@ -82,29 +82,22 @@ abbrev pub retained_shown : ℕ → List Data
 retained_shown zero = []
 retained_shown (suc n) = object (put (codes "retain") (json_number (suc n)) no_members) ∷ []
 
--- Operations of a line that removes a range and inserts what a reply shows of it.
-abbrev pub put_back_shown : List PlainItem → (from to : ℕ) → Data
-put_back_shown items from to =
-    let range = items_shown (slice_range items from to) in
-    let replaced = object (put (codes "remove") (json_number (to - from)) (put (codes "insert") range no_members)) in
-    json_list (retained_shown from ++ (replaced ∷ retained_shown (length items - to)))
+-- Operations of a line: after so many items some go, and what a reply shows of the range comes.
+abbrev pub put_shown : (range : List PlainItem) (at count rest : ℕ) → Data
+put_shown range at count rest =
+    let replaced = object (put (codes "remove") (json_number count) (put (codes "insert") (items_shown range) no_members)) in
+    json_list (retained_shown at ++ (replaced ∷ retained_shown rest))
 
--- A line with `exact` reads them, and the change leaves the list as it is.
-pub record IsPutBack (opened items : List PlainItem) (from to : ℕ) : Type 0 where
+-- A line with `exact` reads them, and the change makes the list this one.
+pub record IsPut (opened items range : List PlainItem) (at count : ℕ) (result : List PlainItem) : Type 0 where
   pub ops : List OpWords
-  pub reads : ops_in true (put_back_shown items from to) ≡ Some ops
+  pub reads : ops_in true (put_shown range at count (length items - (at + count))) ≡ Some ops
   pub t : Transaction
   pub gives : change_of items (completed opened (Apply ops)) ≡ Ok t
-  pub list : edited t items ≡ items
+  pub list : edited t items ≡ result
 
--- So it is of every range that is not empty, where each item can be put back, and each opening with
--- an origin is the page's.
+-- So it is wherever items are put of which each can be put back, and each opening with an origin is
+-- the page's.
 abbrev pub PutBackStays : Type 0
-PutBackStays = (opened items : List PlainItem) (from to : ℕ) → length items ≤ max_items → from < to → to ≤ length items →
-    AllByRecursion CanPutBack (slice_range items from to) → AllPass (has_first opened) (slice_range items from to) → IsPutBack opened items from to
-
--- So it is in every world of every site's list, where each item of the range can be put back.
-abbrev pub WorldsPutBack : Type 0
-WorldsPutBack = (lines : List (List ℕ)) (page : Opened) (w : Session) (k : ℕ) (m : Member) (from to : ℕ) → world_after Closed lines ≡ Open page w → slice_get w.members k ≡ Some m →
-    let items = m.site.replica.items in
-    length items ≤ max_items → from < to → to ≤ length items → AllByRecursion CanPutBack (slice_range items from to) → IsPutBack page.items items from to
+PutBackStays = (opened items range : List PlainItem) (at count : ℕ) → length items ≤ max_items → at + count ≤ length items → 0 < count + length range →
+    AllByRecursion CanPutBack range → AllPass (has_first opened) range → IsPut opened items range at count (take at items ++ (range ++ drop (at + count) items))

@@ -17,7 +17,7 @@ use Rattle.model_site_law.specs.Laws.{HintsBeside, IsListBefore, IsWithout, IsWi
 use Rattle.model_site_law.specs.Sound.{Sound, AllIn, AllMayRun, Opens}
 use Rattle.model_site_law.specs.MayHappen.{AllMayHappen}
 use Rattle.model_site_law.specs.Protocol.{Every}
-use Rattle.model_site_law.specs.ItemLaws.{AllPass, Inserts}
+use Rattle.model_site_law.specs.ItemLaws.{AllPass, Inserts, any_attr}
 use Rattle.model_site_law.specs.SelectionLaws.{StandsIn, AllSelectWithin}
 use Rattle.model_site_law.specs.StoreLaws.{BeginsWith}
 use Rattle.model_site_law.specs.ViewLaws.{told_at, told_last}
@@ -26,6 +26,7 @@ use Rattle.model_world.specs.Commands.{command}
 use Rattle.model_world.specs.Opening.{open_page}
 use Rattle.model_world_law.specs.PutBack.{has_first}
 use Rattle.model_world_law.specs.Standing.{may_stand}
+use Rattle.model_world_law.specs.Writable.{is_attr, is_writable}
 use Rattle.model_world.specs.World.{World, Closed, Open, world_after}
 
 -- the list that site k told last, where this site tells now, or none does
@@ -39,9 +40,11 @@ pub record Becomes (teller : Option ℕ) (w next : Session) : Type 0 where
   pub may : AllMayHappen w events
   pub within : AllSelectWithin w events
   -- where the items of the page and of every site may stand, so may all that is inserted
-  pub inserts : AllPass may_stand w.base.items → Every (λ m. AllPass may_stand m.site.replica.items) w.members → AllByRecursion (Inserts may_stand) events
+  pub inserts : AllPass may_stand w.base.items → Every (λ m. AllPass may_stand m.site.replica.items) w.members → AllByRecursion (Inserts may_stand any_attr) events
   -- where each opening with an origin is one of the page's, so is each that is inserted
-  pub origins : Every (λ m. AllPass (has_first w.base.items) m.site.replica.items) w.members → AllByRecursion (Inserts (has_first w.base.items)) events
+  pub origins : Every (λ m. AllPass (has_first w.base.items) m.site.replica.items) w.members → AllByRecursion (Inserts (has_first w.base.items) any_attr) events
+  -- where a line can write each site's items, it can write all that is put in
+  pub writes : Every (λ m. AllPass is_writable m.site.replica.items) w.members → AllByRecursion (Inserts is_writable is_attr) events
   pub told : (k : ℕ) (before : List PlainItem) → told_last k w events before ≡ told_if teller k w before
   pub same : next ≡ run w events
 
@@ -63,8 +66,9 @@ pub record IsReached (lines : List (List ℕ)) (page : Opened) (w : Session) : T
   pub opens : Opens (opened_with page.items)
   pub may : AllMayHappen (started (opened_with page.items) sites) events
   pub within : AllSelectWithin (started (opened_with page.items) sites) events
-  pub inserts : IsUtf8 page.page → AllByRecursion (Inserts may_stand) events
-  pub origins : AllByRecursion (Inserts (has_first page.items)) events
+  pub inserts : IsUtf8 page.page → AllByRecursion (Inserts may_stand any_attr) events
+  pub origins : AllByRecursion (Inserts (has_first page.items) any_attr) events
+  pub writes : IsUtf8 page.page → AllByRecursion (Inserts is_writable is_attr) events
   pub same : w ≡ run (started (opened_with page.items) sites) events
 
 abbrev pub WorldReached : List (List ℕ) → World → Type 0

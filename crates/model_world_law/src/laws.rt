@@ -7,7 +7,8 @@ ghost use Rattle.model_world_law.specs.Pasted.{FragmentsAreChildren, PastingStay
 ghost use Rattle.model_world_law.specs.ShownLaws.{ShownIsRead};
 ghost use Rattle.model_world_law.specs.Redone.{LinesRedo};
 ghost use Rattle.model_world_law.specs.ViewLines.{LinesShow};
-ghost use Rattle.model_world_law.specs.PutBack.{ExactIsRead, OriginsStay, PutBackStays, WorldsPutBack};
+ghost use Rattle.model_world_law.specs.PutBack.{ExactIsRead, OriginsStay, PutBackStays};
+ghost use Rattle.model_world_law.specs.Writable.{EveryItemIsWritable, WorldsPutBack, WorldsPutElsewhere};
 ghost use Rattle.model_world_law.specs.AheadLaws.{LinesOfTwoSitesSwap};
 ghost use Rattle.model_world_law.specs.Reached.{EveryItemStands, EveryWorldIsReached, EverySiteHolds, QuietSitesMeet, SitesMeet, UneditedIsWrittenBack};
 
@@ -35,13 +36,18 @@ pub fn shown_is_read()
 {}
 
 /// Items that a reply shows are read back by a line with `exact`, but for the heads of leaves that
-/// no tag spells. A range that is removed, and put back as it is shown, leaves the list as it is. So
-/// it does in every world: each opening with an origin stays one that the page was read with.
+/// no tag spells. Put anywhere in a list, just these items come to stand there. So they do in every
+/// world, where each opening that no tag spells has an origin, but for brackets of the internal list.
+/// Put back where they were, they leave the list as it is, and that is accepted where the store is
+/// within its limit. For a line can write each item, and each opening with an origin stays one that
+/// the page was read with.
 pub fn put_back_stays()
     ensures read { ExactIsRead }
     ensures stays { PutBackStays }
     ensures origins { OriginsStay }
+    ensures writable { EveryItemIsWritable }
     ensures worlds { WorldsPutBack }
+    ensures elsewhere { WorldsPutElsewhere }
 {}
 
 /// Want of memory is never the cause of a refusal of a change, a row, a column or a moved list

@@ -7,7 +7,8 @@
 //!   ([`layers_fit`], [`insertions_stand`]);
 //! - `ShownLaws`: items that a line can write, and that they are shown so that they are read back
 //!   ([`shown_is_read`]);
-//! - `PutBack`: items that are put back as they were shown ([`put_back_stays`]);
+//! - `PutBack`, `Writable`: items that are put back as they were shown, and that a line can write all
+//!   items of every list ([`put_back_stays`]);
 //! - `Causes`: when a refusal tells of a full store ([`store_full_is_full`]);
 //! - `Pasted`: what a fragment becomes stands together under some kind, so pasting keeps the law
 //!   ([`pasting_stays_lawful`]);

@@ -4,7 +4,7 @@ use Rattle.std.proofs.Common.{◌≡◌, ◌∷◌, List, [], Option, Some, None
 use Rattle.ve_kinds.specs.declared.kind.Kind.TheVariants.{P}
 use Rattle.ve_arena.specs.declared.node.NodeWhat.TheVariants.{Node, Run}
 use Rattle.ve_arena.specs.declared.node.ArenaNode.{ArenaNode}
-use Rattle.ve_arena.specs.Arena.{node_under, new_node, with_parent, with_first, with_last, with_before, with_after, with_len}
+use Rattle.ve_arena.specs.Arena.{node_under, new_node, with_parent, with_first, with_last, with_before, with_after, with_len, live_count}
 
 abbrev text : ArenaNode
 text = with_len 3 (with_parent (Some (record { 0 = 0 })) (new_node Run))
@@ -24,3 +24,6 @@ past = refl
 written : with_first (Some (record { 0 = 4 })) (with_last (Some (record { 0 = 5 })) (with_before None (with_after (Some (record { 0 = 6 })) text)))
     ≡ record { what = Run; parent = Some (record { 0 = 0 }); first = Some (record { 0 = 4 }); last = Some (record { 0 = 5 }); before = None; after = Some (record { 0 = 6 }); len = 3 }
 written = refl
+
+counted : live_count slots ≡ 2
+counted = refl

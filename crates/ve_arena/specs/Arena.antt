@@ -1,6 +1,6 @@
 -- An arena as a finite map: the slots give the node under each number, or nothing. What one write
 -- changes.
-use Rattle.std.specs.Prelude.{◌≡◌, ◌≢◌, ℕ, List, Option, None, IsSome, slice_index_or, option_map}
+use Rattle.std.specs.Prelude.{◌≡◌, ◌≢◌, ℕ, List, Option, None, is_some, IsSome, count_by, slice_index_or, option_map}
 use Rattle.ve_arena.specs.declared.node.NodeId.{NodeId}
 use Rattle.ve_arena.specs.declared.node.NodeWhat.{NodeWhat}
 use Rattle.ve_arena.specs.declared.node.ArenaNode.{ArenaNode}
@@ -16,6 +16,10 @@ node_under slots n = slot_at slots n.0
 -- there is a node under the number
 abbrev pub IsLive : List (Option ArenaNode) → NodeId → Type 0
 IsLive slots n = IsSome (node_under slots n)
+
+-- how many numbers have a node
+abbrev pub live_count : List (Option ArenaNode) → ℕ
+live_count slots = count_by is_some slots
 
 -- the number now has this slot, and every other number has what it had
 pub record Puts (old new : List (Option ArenaNode)) (n : NodeId) (slot : Option ArenaNode) : Type 0 where

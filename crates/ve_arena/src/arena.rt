@@ -1,6 +1,6 @@
-// The arena: making, freeing and linking nodes, one step each.
+// The arena: making, freeing, linking and copying nodes, one step each.
 ghost use Rattle.std.specs.Prelude.{◌≡◌, ◌+◌, [], None, Some, IfOk, OnErr};
-ghost use Rattle.ve_arena.specs.Arena.{node_under, IsLive, Changes, Puts, new_node};
+ghost use Rattle.ve_arena.specs.Arena.{node_under, IsLive, live_count, Changes, Puts, new_node};
 ghost use Rattle.ve_arena.specs.Arena.{with_parent, with_first, with_last, with_before, with_after, with_len};
 
 use crate::{ArenaNode, NodeId, NodeWhat};
@@ -42,10 +42,16 @@ impl Arena {
         }
     }
 
-    /// A copy, with each node under its number. Nothing is linked anew, so it is no step.
-    pub fn copy(&self) -> Result<Arena, Memory>
-        ensures { IfOk result (λ copy. copy ≡ self.now) }
+    /// A copy, with each node under its number. Each node of the copy is one step, also where there
+    /// is no memory for it.
+    pub fn copy<L: Ledger>(&self, steps: &mut Steps<L>) -> Result<Arena, Memory>
+        ensures copy { IfOk result (λ copy. copy ≡ self.now) }
+        ensures step_a_node { steps.new ≡ steps.old + live_count self.now }
     {
+        // before the answer, so that a call without memory counts too
+        for _ in 0..self.nodes.len() {
+            steps.tick();
+        }
         let nodes = self.nodes.clone()?;
         Ok(Arena { nodes })
     }

@@ -2,20 +2,20 @@
 //! sibling on either side, and a length.
 //!
 //! Proved: each write changes one node and counts one step. Making a node is one step also where
-//! there is no memory for it; the arena is then as before.
+//! there is no memory for it; the arena is then as before. A copy is one step for each node.
 //!
 //! It knows which numbers have a node, and each node's fields. A new node has no links, and a write
 //! changes one field of one node. A number is given out again only after its node was freed. It
 //! doesn't know whether the links are those of a tree, whether a link leads to a node, or what a
 //! length counts. Its users say that.
 //!
-//! Each node that is made or freed and each write is one step of a count, so a bound on steps is a
-//! bound on writes. Reading is free.
+//! Each node that is made, copied or freed and each write is one step of a count, so a bound on
+//! steps is a bound on writes, and on copies too. Reading is free.
 //!
 //! Definitions, in reading order, all in `Arena`: `slot_at` and `node_under` (what stands under a
-//! number), `IsLive`, `Puts` and `Changes` (what one call leaves as it was), `new_node`, and the
-//! fields' `with_parent` to `with_len`. It has no laws: each clause is the whole of what its call
-//! does.
+//! number), `IsLive`, `live_count` (how many nodes there are), `Puts` and `Changes` (what one call
+//! leaves as it was), `new_node`, and the fields' `with_parent` to `with_len`. It has no laws: each
+//! clause is the whole of what its call does.
 #![tactic(auto)]
 
 mod arena;

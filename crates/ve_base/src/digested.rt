@@ -1,11 +1,11 @@
 // A list of attributes beside its digest, which is taken once for all who share the list.
 ghost use Rattle.std.specs.Prelude.{◌≡◌, fold};
-ghost use Rattle.std.specs.Hash.FoldHasher as folding;
+ghost use Rattle.std.specs.Hash.DefaultHasher as sip;
 ghost use Rattle.ve_base.specs.Digest.{attrs_input, digest_of};
 
 use crate::Attr;
 use std::alloc::Global;
-use std::hash::{FoldHasher, Hasher};
+use std::hash::{DefaultHasher, Hasher};
 use std::marker::Model;
 
 /// A list of attributes with its digest.
@@ -34,8 +34,8 @@ impl Model for Digested {
 }
 
 /// Writes attributes to a hasher, in order.
-fn feed(attrs: &[Attr], state: &mut FoldHasher)
-    ensures { state.new ≡ fold folding.write state.old (attrs_input attrs.now) }
+fn feed(attrs: &[Attr], state: &mut DefaultHasher)
+    ensures { state.new ≡ fold sip.write state.old (attrs_input attrs.now) }
 {
     for attr in attrs {
         attr.name.feed(state);
@@ -47,7 +47,7 @@ fn feed(attrs: &[Attr], state: &mut FoldHasher)
 pub(crate) fn digest(attrs: &[Attr]) -> u64
     ensures { result ≡ digest_of attrs.now }
 {
-    let mut state = FoldHasher::default();
+    let mut state = DefaultHasher::new();
     feed(attrs, &mut state);
     state.finish()
 }

@@ -1,15 +1,14 @@
 -- The marks of one item with a mark more, or one less, and the number that the item then cites.
-use Rattle.std.proofs.Common.{◌≡◌, ◌≤◌, ◌<◌, ℕ, zero, suc, ◌+◌, Bool, true, false, not, ◌&&◌, ◌||◌, cond, if◌then◌else◌, nat_lt, nat_le, List, [], ◌∷◌, ◌++◌, length, slice_get, Contains, Option, Some, None, refl, sym, ap, ◌∙◌, arith, true≢false, append_assoc}
+use Rattle.std.proofs.Common.{◌≡◌, ◌≤◌, ◌<◌, ℕ, zero, suc, Bool, true, false, not, ◌&&◌, ◌||◌, cond, if◌then◌else◌, nat_lt, List, [], ◌∷◌, ◌++◌, length, slice_get, Contains, Option, Some, None, refl, sym, ap, ◌∙◌, arith, true≢false, append_assoc}
 use Rattle.std.specs.List.{list_all}
 use Rattle.std.specs.Str.{IsAscii, chars, encode_utf8_all, bytes_eq}
 use Rattle.std.proofs.lemmas.Bool.{and_parts, ltb-true, false_from_ne_true}
-use Rattle.std.proofs.lemmas.Bool.Decides.{same_from_decides, nat_tests}
+use Rattle.std.proofs.lemmas.Bool.Decides.{same_from_decides}
 use Rattle.std.proofs.lemmas.Option.{slice_get_within, get_or_from_slice_get}
 use Rattle.std.proofs.lemmas.Slice.Eq.{bytes_eq-Decides}
 use Rattle.std.proofs.lemmas.Str.{chars-IsAscii, encodes-IsAscii}
 use Rattle.std.proofs.lemmas.Str.Ascii.{IsAscii-nil}
 use Rattle.ve_base.specs.Empty.{empty_head}
-use Rattle.ve_base.specs.Limits.{max_marks}
 use Rattle.ve_base.specs.declared.marks.Mark.{Mark}
 use Rattle.ve_base.specs.declared.value.Value.{Value}
 use Rattle.ve_base.specs.declared.value.Value.TheVariants as value
@@ -25,7 +24,7 @@ use Rattle.model_items.specs.Plain.{plain, value_at, head_in, marks_in, white_in
 use Rattle.model_items.specs.Same.{mark_same, marks_same, head_same}
 use Rattle.model_items.proofs.SameLemmas.{Means-marks_same, Means-head_same}
 use Rattle.model_change.specs.Store.{admitted, fill, white_cited, marks_cited, head_cited, cited_by}
-use Rattle.model_edit.specs.Marking.{remarked, item_marks, is_full_for}
+use Rattle.model_edit.specs.Marking.{remarked, item_marks}
 use Rattle.ve_store.specs.Following.{marks_at}
 use Rattle.ve_store.specs.Marked.{with_marks, values_marked, values_unmarked}
 use Rattle.ve_store.proofs.StoreLemmas.{admitted_there, admitted_before}
@@ -139,30 +138,6 @@ pub same_remarked : (f : List Mark → List Mark) (marks : List Mark) (p : Plain
 same_remarked f marks (Char c old) h = ap (λ l. Char c l) h
 same_remarked f marks (Opening kind head old pre origin generated) h = ap (λ l. Opening kind head (if is_inline_leaf kind then l else old) pre origin generated) h
 same_remarked f marks (Closing kind pre) h = refl
-
--- ---- too many marks
-
-pub full_as_is : (m : Mark) (p : PlainItem) (n : ℕ) (r : Bool) → keeps_marks (with_mark m) p ≡ true → n ≡ length (item_marks p) → r ≡ nat_lt max_marks n → r ≡ is_full_for m p
-full_as_is m p n r keeps count is =
-    let same : item_marks (remarked (with_mark m) p) ≡ item_marks p = Means-marks_same.equal (item_marks (remarked (with_mark m) p)) (item_marks p) keeps in
-    is ∙ ap (λ k. nat_lt max_marks k) count ∙ sym (ap (λ (l : List Mark). nat_lt max_marks (length l)) same)
-
-with_more : (m : Mark) (marks : List Mark) → has_mark m marks ≡ false → length (with_mark m marks) ≡ length marks + 1
-with_more m marks h = ap (λ b. length (if b then marks else marks ++ m ∷ [])) h ∙ one_more marks
-  where
-    one_more : (xs : List Mark) → length (xs ++ m ∷ []) ≡ length xs + 1
-    one_more [] = refl
-    one_more (x ∷ xs) = let e = one_more xs in omega (arith, e)
-
-pub full_with_one : (m : Mark) (p : PlainItem) (n : ℕ) (r : Bool) → keeps_marks (with_mark m) p ≡ false → is_content_item p ≡ true → n ≡ length (item_marks p) → r ≡ nat_le max_marks n → r ≡ is_full_for m p
-full_with_one m p n r keeps may count is =
-    let new : has_mark m (item_marks p) ≡ false = sym (set_keeps m (item_marks p)) ∙ sym (may_keep (with_mark m) p may) ∙ keeps in
-    let more : item_marks (remarked (with_mark m) p) ≡ with_mark m (item_marks p) = marks-remarked (with_mark m) p ∙ ap (λ b. if b then with_mark m (item_marks p) else item_marks p) may in
-    let e : n + 1 ≡ length (item_marks (remarked (with_mark m) p)) = ap (λ k. k + 1) count ∙ sym (with_more m (item_marks p) new) ∙ sym (ap (λ (l : List Mark). length l) more) in
-    is ∙ shifted max_marks n ∙ ap (λ k. nat_lt max_marks k) e
-  where
-    shifted : (k n : ℕ) → nat_le k n ≡ nat_lt k (n + 1)
-    shifted k n = grind (arith, nat_tests)
 
 -- ---- what is cited already adds nothing
 

@@ -18,7 +18,7 @@ use Rattle.ve_edits.proofs.GrownLemmas.{values_may_grow}
 use Rattle.ve_edits.proofs.SpanLemmas.{places_more, places_none}
 use Rattle.ve_store.specs.Following.{Following, Grows, together}
 use Rattle.ve_tx.proofs.ValuesLemmas.{all-extended, filled_on}
-use Rattle.ve_build_shape.specs.Remarked.{keeps_marks, remark_edits, remarked_item, remarked_items, IsRemarked}
+use Rattle.ve_build_shape.specs.Remarked.{keeps_marks, remark_edits, remarked_item, remarked_items, IsRemarked, Remarks, Replaces}
 use Rattle.ve_edits.proofs.PieceLemmas.{pieces, pieces-append, inserts_pieces}
 use Rattle.ve_edits.proofs.FollowingLemmas.{grows_on, grows_extends, store_extends}
 
@@ -93,40 +93,40 @@ inserts_remarked f items from to = inserts_pieces items (remark_edits f items fr
 cited_more : (items : List PlainItem) (p : PlainItem) → cited (items ++ p ∷ []) ≡ cited items ++ cited_by p
 cited_more items p = flat_map-append cited_by items (p ∷ []) ∙ ap (λ l. cited items ++ l) (append-nil (cited_by p))
 
-module _ (store : List Value) (items : List Item) (f : List Mark → List Mark) (from at : ℕ) (start old : Following) (before : Collected) (x : Item)
-    (order : from ≤ at) (there : slice_get (plain_list store items) at ≡ Some (plain store x)) (m : IsRemarked store items f from at start old before) where
-  pub one_kept : keeps_marks f (plain store x) ≡ true → IsRemarked store items f from (at + 1) start old before
-  one_kept keeps =
+module _ (store : List Value) (items : List Item) (f : List Mark → List Mark) (from at : ℕ) (start old new : Following) (before : Collected) (x : Item)
+    (order : from ≤ at) (there : slice_get (plain_list store items) at ≡ Some (plain store x)) (grows : Grows old new) (m : IsRemarked store items f from at start old before) where
+  pub one_kept : Remarks store f old new x None → IsRemarked store items f from (at + 1) start new before
+  one_kept (keeps, same_values) =
       let same = sym (edits_kept f (plain_list store items) from at (plain store x) order there keeps) in
-      let M : List Edit → Type 0 = λ es. Makes (together store old) items es before in
+      let M : List Edit → Type 0 = λ es. Makes (together store new) items es before in
+      let makes = subst (λ V. Makes V items (remark_edits f (plain_list store items) from at) before) (sym same_values) m.makes in
       let brought = sym (items_kept f (plain_list store items) from at (plain store x) order there keeps) in
-      let F : List PlainItem → Type 0 = λ l. together store old ≡ fill (together store start) (cited l) in
+      let F : List PlainItem → Type 0 = λ l. together store new ≡ fill (together store start) (cited l) in
       record {
         order = let o = m.order in omega (arith, o);
-        grown = m.grown;
-        makes = subst M same m.makes;
-        filled = subst F brought m.filled;
+        grown = grows_on start old new m.grown grows;
+        makes = subst M same makes;
+        filled = subst F brought (same_values ∙ m.filled);
       }
 
-  pub one_changed : (new : Following) (after : Collected) (other : Item) → keeps_marks f (plain store x) ≡ false → All (CitesWell store) items →
-      Grows old new → after.at ≡ at + 1 → MakesOneMore items at 1 (other ∷ []) before after → plain (together store new) other ≡ remarked f (plain store x) → CitesWell (together store new) other →
-      together store new ≡ fill (together store old) (cited_by (remarked f (plain store x))) → IsRemarked store items f from (at + 1) start new after
-  one_changed new after other keeps listed grows place makes_more is cites fills =
+  pub one_changed : (after : Collected) (other : Item) → All (CitesWell store) items → after.at ≡ at + 1 → MakesOneMore items at 1 (other ∷ []) before after → Replaces store f old new x other →
+      IsRemarked store items f from (at + 1) start new after
+  one_changed after other listed place makes_more r =
       let P = plain_list store items in
-      let r = remarked f (plain store x) in
+      let q = remarked f (plain store x) in
       let E = remark_edits f P from at in
       let V = together store new in
-      let same = sym (edits_changed f P from at (plain store x) order there keeps) in
+      let same = sym (edits_changed f P from at (plain store x) order there r.changes) in
       let M : List Edit → Type 0 = λ es. Makes V items es after in
       let R = remarked_items f P from at in
-      let brought = sym (items_changed f P from at (plain store x) order there keeps) in
+      let brought = sym (items_changed f P from at (plain store x) order there r.changes) in
       let F : List PlainItem → Type 0 = λ l. V ≡ fill (together store start) (cited l) in
       let grown = values_may_grow (together store old) V items E before (grows_extends store old new grows) (all-extended store (together store old) (store_extends store old) items listed) m.makes in
       let listed_now = all-extended store V (store_extends store new) items listed in
-      let made = makes_more V E listed_now (All-cons (CitesWell V) other [] cites (All-nil (CitesWell V))) grown in
+      let made = makes_more V E listed_now (All-cons (CitesWell V) other [] r.cites (All-nil (CitesWell V))) grown in
       record {
         order = omega (arith, place);
         grown = grows_on start old new m.grown grows;
-        makes = subst M same (subst (λ q. Makes V items (E ++ Change at 1 (q ∷ []) ∷ []) after) is made);
-        filled = subst F brought (fills ∙ filled_on (together store start) (together store old) (cited R) (cited_by r) m.filled ∙ ap (fill (together store start)) (sym (cited_more R r)));
+        makes = subst M same (subst (λ p. Makes V items (E ++ Change at 1 (p ∷ []) ∷ []) after) r.means made);
+        filled = subst F brought (r.filled ∙ filled_on (together store start) (together store old) (cited R) (cited_by q) m.filled ∙ ap (fill (together store start)) (sym (cited_more R q)));
       }

@@ -1,5 +1,5 @@
 -- Marks set on the items of a range, or taken off them.
-use Rattle.std.specs.Prelude.{◌≡◌, ◌≤◌, ℕ, ◌+◌, Bool, true, if◌then◌else◌, List, [], ◌∷◌, Option, Some, None, Result, Ok, slice_get, flat_map}
+use Rattle.std.specs.Prelude.{◌≡◌, ◌≤◌, ℕ, Bool, true, false, if◌then◌else◌, List, [], ◌∷◌, Option, Some, None, Result, Ok, slice_get, flat_map}
 use Rattle.ve_base.specs.declared.marks.Mark.{Mark}
 use Rattle.ve_base.specs.declared.value.Value.{Value}
 use Rattle.ve_base.specs.declared.value.ValueId.{ValueId}
@@ -18,8 +18,9 @@ use Rattle.model_edit.specs.Marking.{remarked, item_marks, remark_edit}
 use Rattle.ve_edits.specs.Collected.{Collected, Makes}
 use Rattle.ve_store.specs.Following.{Following, Grows, together, marks_at}
 use Rattle.ve_tx.specs.Operation.{Operation, by_value}
-use Rattle.ve_build_shape.specs.declared.remark.Remark.{Remark}
-use Rattle.ve_build_shape.specs.declared.remark.Remark.TheVariants.{Set, TakeOff}
+use Rattle.ve_build_shape.specs.declared.changes.MarksChange.{MarksChange}
+use Rattle.ve_build_shape.specs.declared.changes.Remark.{Remark}
+use Rattle.ve_build_shape.specs.declared.changes.Remark.TheVariants.{Set, TakeOff}
 
 -- the marks of an item after it
 abbrev pub marks_after : Remark → Mark → List Mark → List Mark
@@ -40,12 +41,34 @@ HasMarks item marks new =
 abbrev pub keeps_marks : (List Mark → List Mark) → PlainItem → Bool
 keeps_marks f item = marks_same (item_marks (remarked f item)) (item_marks item)
 
--- the new values are the old ones filled with what these marks, or this item, cite
-abbrev pub IsMarksFilled : List Value → (old new : Following) → List Mark → Option ValueId → Type 0
-IsMarksFilled store old new marks id = together store new ≡ fill (together store old) (marks_cited marks)
+-- the new values are the old ones filled with what these marks cite
+abbrev pub IsMarksFilled : List Value → (old new : Following) → List Mark → Type 0
+IsMarksFilled store old new marks = together store new ≡ fill (together store old) (marks_cited marks)
 
-abbrev pub IsItemFilled : List Value → (old new : Following) → PlainItem → Item → Type 0
-IsItemFilled store old new other item = together store new ≡ fill (together store old) (cited_by other)
+-- What is cited afterwards are the marks that f makes of those before, and the same number where
+-- these stay.
+pub record IsMarksChange (values : List Value) (f : List Mark → List Mark) (change : MarksChange) : Type 0 where
+  pub cites : CitesMarks values change.after
+  pub made : marks_at values change.after ≡ f (marks_at values change.before)
+  pub stays : marks_same (f (marks_at values change.before)) (marks_at values change.before) ≡ true → change.before ≡ change.after
+
+-- It is the change of the marks that are cited, and the values that it needs have come.
+pub record IsChangeOf (store : List Value) (f : List Mark → List Mark) (old new : Following) (marks : Option ValueId) (change : MarksChange) : Type 0 where
+  pub before : change.before ≡ marks
+  pub holds : IsMarksChange (together store new) f change
+  pub filled : IsMarksFilled store old new (f (marks_at (together store old) marks))
+
+-- The other item is this one with its marks changed, and the values that it cites have come.
+pub record Replaces (store : List Value) (f : List Mark → List Mark) (old new : Following) (item other : Item) : Type 0 where
+  pub changes : keeps_marks f (plain store item) ≡ false
+  pub means : plain (together store new) other ≡ remarked f (plain store item)
+  pub cites : CitesWell (together store new) other
+  pub filled : together store new ≡ fill (together store old) (cited_by (remarked f (plain store item)))
+
+-- what comes in an item's place; where its marks stay, nothing, and no value comes
+abbrev pub Remarks : List Value → (List Mark → List Mark) → (old new : Following) → Item → Option Item → Type 0
+Remarks store f old new item None = (keeps_marks f (plain store item) ≡ true) × (together store new ≡ together store old)
+Remarks store f old new item (Some other) = Replaces store f old new item other
 
 -- the transaction is, by value, the one that is meant
 abbrev pub IsMeant : List Value → Following → Result Transaction BuildCause → List Operation → Type 0
@@ -70,8 +93,3 @@ pub record IsRemarked (store : List Value) (items : List Item) (f : List Mark �
   pub grown : Grows start new
   pub makes : Makes (together store new) items (remark_edits f (plain_list store items) from at) c
   pub filled : together store new ≡ fill (together store start) (cited (remarked_items f (plain_list store items) from at))
-
--- One item more is edited.
-abbrev pub RemarksOneMore : List Value → List Item → (List Mark → List Mark) → ℕ → (old new : Following) → (before after : Collected) → Type 0
-RemarksOneMore store items f at old new before after =
-    (from : ℕ) (start : Following) → from ≤ at → IsRemarked store items f from at start old before → IsRemarked store items f from (at + 1) start new after

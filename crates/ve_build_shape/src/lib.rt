@@ -15,13 +15,16 @@
 //! `model_edit_law` hold of the results by the clauses.
 //!
 //! `marking` passes the range twice: the first pass finds the first item that would have too many
-//! marks, and brings no value. `attribute` has `Transaction::filled` find the position of an
+//! marks, and brings no value. It counts marks, and compares them only at the limit. The second
+//! pass, which is the only one of `unmarking`, compares and cites marks once for all items side by
+//! side that cite the same ones. `attribute` has `Transaction::filled` find the position of an
 //! attribute that goes. A wrap's brackets are made once for all nodes of the range. Want of memory
 //! comes only where nothing else refuses the change. `wrap` alone lists the nodes of its range
 //! before it finds a bracket that stands wrong.
 #![tactic(auto)]
 
 mod attributes;
+mod changes;
 mod claims;
 mod kinds;
 mod mark;

@@ -1,5 +1,5 @@
 // Marks set on the characters and inline leaves of a range, or taken off them.
-ghost use Rattle.std.specs.Prelude.{◌≡◌, ◌≤◌, ◌<◌, Ok, IsOk, IfOk, IfErr, OnOk, All, length, slice_get, find};
+ghost use Rattle.std.specs.Prelude.{◌≡◌, ◌≤◌, Ok, IsOk, IfOk, IfErr, All, length, slice_get, find};
 ghost use Rattle.model_items.specs.Plain.{plain_list, CitesWell};
 ghost use Rattle.model_items.specs.Offsets.{places_in, passes};
 ghost use Rattle.model_edit.specs.Marking as model;
@@ -8,9 +8,10 @@ ghost use Rattle.ve_offsets.specs.Docs.{IsDoc, page_items};
 ghost use Rattle.ve_tx.specs.Cites.{TxCites};
 ghost use Rattle.ve_edits.specs.Filled.{BringsInserted};
 ghost use Rattle.ve_edits.specs.Refused.{IsRefusal};
-ghost use Rattle.ve_build_shape.specs.Remarked.{marks_after, IsMeant, RemarksOneMore};
+ghost use Rattle.ve_build_shape.specs.Remarked.{marks_after, IsMeant};
 
-use crate::remark::{Remark, is_bad_mark, is_full, keeps_marks, remarked};
+use crate::changes::Remark;
+use crate::remark::{is_bad_mark, is_full, remarked};
 use model_edit::BuildFault;
 use std::alloc::Global;
 use ve_base::{Mark, Memory};
@@ -35,34 +36,6 @@ fn first_full(doc: Doc<'_>, from: usize, to: usize, mark: &Mark) -> Option<usize
     None
 }
 
-/// Collects the edit of one item, where its marks change.
-fn remark_item(
-    alloc: Global,
-    doc: Doc<'_>,
-    at: usize,
-    remark: Remark,
-    mark: &Mark,
-    new: &mut NewValues,
-    edits: &mut Edits,
-) -> Result<(), Memory>
-    requires within { at < length doc.list.now.items }
-    requires order { edits.old.at ≤ at }
-    requires cites { All (CitesWell doc.store.now) doc.list.now.items }
-    requires follows { new.old.after ≡ length doc.store.now }
-    ensures one { OnOk result (
-        RemarksOneMore doc.entry.store.now doc.entry.list.now.items
-        (marks_after remark mark.now) at new.old new.new edits.old edits.new) }
-    ensures grows { Grows new.old new.new }
-{
-    let item = doc.list.get(at);
-    if keeps_marks(doc.store, item, remark, mark) {
-        return Ok(());
-    }
-    let other = remarked(alloc, doc.store, new, item, remark, mark)?;
-    edits.change(doc.list, at, 1, &[other])?;
-    Ok(())
-}
-
 /// The change of all items of a range.
 fn remark_range(
     alloc: Global,
@@ -85,8 +58,14 @@ fn remark_range(
     ensures grows { Grows new.old new.new }
 {
     let mut edits = Edits::new(alloc);
+    let mut last = None;
     for at in from..to {
-        remark_item(alloc, doc, at, remark, mark, new, &mut edits)?;
+        let item = doc.list.get(at);
+        let other = remarked(alloc, doc.store, new, &mut last, item, remark, mark)?;
+        let Some(other) = other else {
+            continue;
+        };
+        edits.change(doc.list, at, 1, &[other])?;
     }
     let tx = edits.transaction(doc.list)?;
     Ok(tx)

@@ -27,7 +27,9 @@ use Rattle.ve_tx.specs.Making.{Extends}
 use Rattle.ve_tx.specs.Operation.{by_value}
 use Rattle.ve_tx.proofs.ValuesLemmas.{extends_by_fill}
 use Rattle.ve_editor.specs.Edited.{EntryCites, entry_by_value}
+use Rattle.ve_editor.specs.Page.{LinkedPage, replica_of}
 use Rattle.ve_editor.proofs.OtherLemmas.{all_by_value-extended, all_cites-extended}
+use Rattle.ve_editor.proofs.StayLemmas.{StaySoFar, stay_first, stay_more}
 use Rattle.ve_changes.specs.declared.faults.ChangeStop.{ChangeStop}
 use Rattle.ve_changes.specs.declared.faults.ChangeStop.TheVariants as one
 use Rattle.ve_changes.specs.Drafts.{IsDrafted}
@@ -101,32 +103,34 @@ after ts (Ok us) = Ok (ts ++ us)
 after ts (Err e) = Err e
 
 -- Of the changes those before `rest` are performed, so many.
-pub record SoFar (r : Replica) (changes rest : List EditCommand) (i : ℕ) (now : Replica) (e : KeptEntry) : Type 0 where
+pub record SoFar (old : LinkedPage) (changes rest : List EditCommand) (i : ℕ) (now : LinkedPage) (e : KeptEntry) : Type 0 where
   pub ts : List Transaction
-  pub meant : batch_on r changes ≡ after ts (batch_from i rest now)
-  pub may : AllMayRun ts r.items
-  pub page : now ≡ all_performed ts r
-  pub entry : entry_by_value now.store e ≡ entry_of ts r
+  pub meant : batch_on (replica_of old) changes ≡ after ts (batch_from i rest (replica_of now))
+  pub may : AllMayRun ts old.items
+  pub page : replica_of now ≡ all_performed ts (replica_of old)
+  pub entry : entry_by_value now.store e ≡ entry_of ts (replica_of old)
   pub cites : EntryCites now.store e
   pub sound : Sound now.items
   pub written : AllWritten rest
+  pub stays : StaySoFar ts old now
 
 after_none : (m : Result (List Transaction) BatchRefusal) → m ≡ after [] m
 after_none (Ok us) = refl
 after_none (Err e) = refl
 
-pub first_so_far : (r : Replica) (changes : List EditCommand) (e : KeptEntry) → Sound r.items → AllWritten changes → e ≡ no_entry (length r.store) → SoFar r changes changes 0 r e
+pub first_so_far : (r : LinkedPage) (changes : List EditCommand) (e : KeptEntry) → Sound r.items → AllWritten changes → e ≡ no_entry (length r.store) → SoFar r changes changes 0 r e
 first_so_far r changes e sound written none =
     subst (SoFar r changes changes 0 r) (sym none)
     (record {
       ts = [];
-      meant = after_none (batch_on r changes);
+      meant = after_none (batch_on (replica_of r) changes);
       may = tt;
       page = refl;
       entry = refl;
       cites = All-nil (TxCites r.store);
       sound = sound;
       written = written;
+      stays = stay_first r;
     })
 
 -- a batch that goes on after a change
@@ -168,7 +172,16 @@ after-append : (ts us : List Transaction) (m : Result (List Transaction) BatchRe
 after-append ts us (Ok vs) = ap Ok (sym (append_assoc ts us vs))
 after-append ts us (Err e) = refl
 
-module _ (r now new : Replica) (changes rest : List EditCommand) (c : EditCommand) (i : ℕ) (e later : KeptEntry) (s : SoFar r changes (c ∷ rest) i now e) (p : IsPerformed now (change_on now c) new later) where
+module _ (was at made : LinkedPage) (changes rest : List EditCommand) (c : EditCommand) (i : ℕ) (e later : KeptEntry) (s : SoFar was changes (c ∷ rest) i at e) (p : IsPerformed at (change_on (replica_of at) c) made later) where
+  abbrev pub r : Replica
+  r = replica_of was
+
+  abbrev pub now : Replica
+  now = replica_of at
+
+  abbrev pub new : Replica
+  new = replica_of made
+
   extends : Extends now.store new.store
   extends = extends_by_fill now.store new.store (brought p.t now.items) (ap (λ (x : Replica). x.store) p.page)
 
@@ -189,7 +202,7 @@ module _ (r now new : Replica) (changes rest : List EditCommand) (c : EditComman
   as_one : entry_by_value new.store (entry_with e later) ≡ entry_of (s.ts ++ p.t ∷ []) r
   as_one = λ j. record { txs = txs j; store_before = (ap (λ (x : Entry). x.store_before) s.entry) j; store_after = last j; takes_back = (ap (λ (x : Entry). x.takes_back) s.entry) j }
 
-  pub next_so_far : SoFar r changes rest (suc i) new (entry_with e later)
+  pub next_so_far : SoFar was changes rest (suc i) made (entry_with e later)
   next_so_far = record {
     ts = s.ts ++ p.t ∷ [];
     meant =
@@ -201,6 +214,7 @@ module _ (r now new : Replica) (changes rest : List EditCommand) (c : EditComman
     cites = All-append (TxCites new.store) e.txs later.txs (all_cites-extended now.store new.store extends e.txs s.cites) p.cites;
     sound = subst (λ (x : Replica). Sound x.items) (sym p.page) (record { lawful = p.may.lawful; apart = names_stay_apart p.t now.items p.may.applies p.may.apart s.sound.apart });
     written = s.written.1;
+    stays = stay_more s.ts p.t was at made s.stays (ap (λ (x : Replica). x.items) p.page) p.tree p.numbers;
   }
 
   -- what is left may take what it could, but for this one
@@ -214,19 +228,20 @@ module _ (r now new : Replica) (changes rest : List EditCommand) (c : EditComman
       let later : cost_of_changes new rest ≡ cost_of_changes (performed p.t now) rest = ap (λ (x : Replica). cost_of_changes x rest) p.page in
       omega (arith, h, k, whole, one, later)
 
-pub all_made : (r now : Replica) (changes rest : List EditCommand) (i : ℕ) (e : KeptEntry) → SoFar r changes rest i now e → rest ≡ [] → IsBatch r (batch_on r changes) now e
+pub all_made : (r now : LinkedPage) (changes rest : List EditCommand) (i : ℕ) (e : KeptEntry) → SoFar r changes rest i now e → rest ≡ [] → IsBatch r (batch_on (replica_of r) changes) now e
 all_made r now changes rest i e s none = record {
   ts = s.ts;
-  asked = s.meant ∙ ap (λ l. after s.ts (batch_from i l now)) none ∙ ap Ok (append-nil s.ts);
+  asked = s.meant ∙ ap (λ l. after s.ts (batch_from i l (replica_of now))) none ∙ ap Ok (append-nil s.ts);
   may = s.may;
   page = s.page;
   entry = s.entry;
   cites = s.cites;
+  numbers = s.stays.numbers;
 }
 
-pub one_refused : (r now : Replica) (changes rest : List EditCommand) (c : EditCommand) (i : ℕ) (e : KeptEntry) (why : ChangeStop) → SoFar r changes (c ∷ rest) i now e → IsRefused why (change_on now c) →
-    IsBatchRefused (batch_on r changes) (stop_at i why)
-one_refused r now changes rest c i e (one.Refused why) s h = s.meant ∙ ap (after s.ts) (batch_ends i c rest now why h)
+pub one_refused : (r now : LinkedPage) (changes rest : List EditCommand) (c : EditCommand) (i : ℕ) (e : KeptEntry) (why : ChangeStop) → SoFar r changes (c ∷ rest) i now e →
+    IsRefused why (change_on (replica_of now) c) → IsBatchRefused (batch_on (replica_of r) changes) (stop_at i why)
+one_refused r now changes rest c i e (one.Refused why) s h = s.meant ∙ ap (after s.ts) (batch_ends i c rest (replica_of now) why h)
 one_refused r now changes rest c i e one.Memory s h = tt
 
 -- ---- changes by their positions
@@ -234,35 +249,38 @@ one_refused r now changes rest c i e one.Memory s h = tt
 drop_next : (changes : List EditCommand) (i : ℕ) (c : EditCommand) → i < length changes → c ≡ get_or changes i c → drop i changes ≡ c ∷ drop (i + 1) changes
 drop_next changes i c inside is = drop_more changes i c inside ∙ ap (λ x. x ∷ drop (i + 1) changes) (sym is)
 
-module _ (r now : Replica) (changes : List EditCommand) (c : EditCommand) (i : ℕ) (e : KeptEntry) (inside : i < length changes) (is : c ≡ get_or changes i c) (s : SoFar r changes (drop i changes) i now e) where
+module _ (r now : LinkedPage) (changes : List EditCommand) (c : EditCommand) (i : ℕ) (e : KeptEntry) (inside : i < length changes) (is : c ≡ get_or changes i c) (s : SoFar r changes (drop i changes) i now e) where
   at_place : SoFar r changes (c ∷ drop (i + 1) changes) i now e
   at_place = subst (λ l. SoFar r changes l i now e) (drop_next changes i c inside is) s
 
-  within_at : (old mid : ℕ) → mid + cost_of_changes now (drop i changes) ≤ old + cost_of_changes r changes → mid + cost_of_changes now (c ∷ drop (i + 1) changes) ≤ old + cost_of_changes r changes
-  within_at old mid h = subst (λ l. mid + cost_of_changes now l ≤ old + cost_of_changes r changes) (drop_next changes i c inside is) h
+  within_at : (old mid : ℕ) → mid + cost_of_changes (replica_of now) (drop i changes) ≤ old + cost_of_changes (replica_of r) changes →
+      mid + cost_of_changes (replica_of now) (c ∷ drop (i + 1) changes) ≤ old + cost_of_changes (replica_of r) changes
+  within_at old mid h = subst (λ l. mid + cost_of_changes (replica_of now) l ≤ old + cost_of_changes (replica_of r) changes) (drop_next changes i c inside is) h
 
   pub written_at : IsWritten c
   written_at = at_place.written.0
 
-  pub performed_at : (new : Replica) (later next : KeptEntry) → IsPerformed now (change_on now c) new later → next ≡ entry_with e later → SoFar r changes (drop (i + 1) changes) (i + 1) new next
+  pub performed_at : (new : LinkedPage) (later next : KeptEntry) → IsPerformed now (change_on (replica_of now) c) new later → next ≡ entry_with e later →
+      SoFar r changes (drop (i + 1) changes) (i + 1) new next
   performed_at new later next p same =
       let one : suc i ≡ i + 1 = omega arith in
       subst (SoFar r changes (drop (i + 1) changes) (i + 1) new) (sym same)
       (subst (λ n. SoFar r changes (drop (i + 1) changes) n new (entry_with e later)) one (next_so_far r now new changes (drop (i + 1) changes) c i e later at_place p))
 
-  pub cost_at : (new : Replica) (later : KeptEntry) (old mid end : ℕ) → IsPerformed now (change_on now c) new later → mid + cost_of_changes now (drop i changes) ≤ old + cost_of_changes r changes →
-      end ≤ mid + cost_of_transactions (made_of (change_on now c)) now.items → end + cost_of_changes new (drop (i + 1) changes) ≤ old + cost_of_changes r changes
+  pub cost_at : (new : LinkedPage) (later : KeptEntry) (old mid end : ℕ) → IsPerformed now (change_on (replica_of now) c) new later →
+      mid + cost_of_changes (replica_of now) (drop i changes) ≤ old + cost_of_changes (replica_of r) changes →
+      end ≤ mid + cost_of_transactions (made_of (change_on (replica_of now) c)) now.items → end + cost_of_changes (replica_of new) (drop (i + 1) changes) ≤ old + cost_of_changes (replica_of r) changes
   cost_at new later old mid end p h k = cost_left r now new changes (drop (i + 1) changes) c i e later at_place p old mid end (within_at old mid h) k
 
-  pub refused_at : (why : ChangeStop) → IsRefused why (change_on now c) → IsBatchRefused (batch_on r changes) (stop_at i why)
+  pub refused_at : (why : ChangeStop) → IsRefused why (change_on (replica_of now) c) → IsBatchRefused (batch_on (replica_of r) changes) (stop_at i why)
   refused_at why h = one_refused r now changes (drop (i + 1) changes) c i e why at_place h
 
   -- where it ends with this one
-  pub cost_stopped_at : (old mid end : ℕ) → mid + cost_of_changes now (drop i changes) ≤ old + cost_of_changes r changes →
-      end ≤ mid + cost_of_transactions (made_of (change_on now c)) now.items → end ≤ old + cost_of_changes r changes
+  pub cost_stopped_at : (old mid end : ℕ) → mid + cost_of_changes (replica_of now) (drop i changes) ≤ old + cost_of_changes (replica_of r) changes →
+      end ≤ mid + cost_of_transactions (made_of (change_on (replica_of now) c)) now.items → end ≤ old + cost_of_changes (replica_of r) changes
   cost_stopped_at old mid end h k =
       let whole = within_at old mid h in
-      let first = first_of_all now c (drop (i + 1) changes) in omega (arith, whole, k, first)
+      let first = first_of_all (replica_of now) c (drop (i + 1) changes) in omega (arith, whole, k, first)
 
 -- ---- one change alone, as several
 

@@ -2,6 +2,7 @@ pub mod StopLemmas
 pub mod CitedLemmas
 pub mod AppliedLemmas
 pub mod DraftLemmas
+pub mod WantLemmas
 pub mod DraftExamples
 pub mod MoveLemmas
 pub mod CaretLemmas

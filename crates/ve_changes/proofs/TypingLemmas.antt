@@ -3,7 +3,6 @@ use Rattle.std.proofs.Common.{◌≡◌, ◌==◌, ℕ, Bool, true, false, if◌
 use Rattle.ve_base.specs.declared.value.Value.{Value}
 use Rattle.model_edit.specs.declared.selection.Selection.{Selection}
 use Rattle.model_site.specs.Entries.{Entry}
-use Rattle.model_site.specs.Replica.{Replica}
 use Rattle.model_world.specs.declared.edit_command.EditCommand.{EditCommand}
 use Rattle.model_world.specs.declared.edit_command.EditCommand.TheVariants as change
 use Rattle.model_world.specs.declared.edit_command.TextMarks.TheVariants.{Left}
@@ -12,6 +11,7 @@ use Rattle.model_world.specs.Edits.{batch_on}
 use Rattle.model_world_law.specs.Fit.{AllWritten}
 use Rattle.ve_tx.specs.declared.entry.Entry.{Entry as KeptEntry}
 use Rattle.ve_tx.specs.Operation.{by_value}
+use Rattle.ve_editor.specs.Page.{LinkedPage, replica_of}
 use Rattle.ve_editor.specs.Trials.{IsMade}
 use Rattle.ve_changes.specs.Batches.{IsBatch}
 use Rattle.ve_changes.proofs.TypedCaretLemmas.{filled_text}
@@ -50,13 +50,15 @@ typing_is_written s text = by (is_collapsed s)
     by false = (tt, (tt, tt))
 
 -- what typing made, with the caret that its entry tells
-pub typed : (r new : Replica) (text : List ℕ) (cs : List EditCommand) (e : KeptEntry) (caret : ℕ) → cs ≡ typing r.selection text → IsBatch r (batch_on r cs) new e →
-    ((values : List Value) → caret ≡ after_text (map (by_value values) e.txs)) → IsMade (λ ts. (batch_on r (typing r.selection text) ≡ Ok ts) × (caret ≡ after_text ts)) r new e
-typed r new text cs e caret same made h = record {
+pub typed : (old new : LinkedPage) (text : List ℕ) (cs : List EditCommand) (e : KeptEntry) (caret : ℕ) → cs ≡ typing old.selection text → IsBatch old (batch_on (replica_of old) cs) new e →
+    ((values : List Value) → caret ≡ after_text (map (by_value values) e.txs)) →
+    IsMade (λ ts. (batch_on (replica_of old) (typing old.selection text) ≡ Ok ts) × (caret ≡ after_text ts)) old new e
+typed old new text cs e caret same made h = record {
   ts = made.ts;
-  asked = (ap (batch_on r) (sym same) ∙ made.asked, h new.store ∙ ap (λ (x : Entry). after_text x.txs) made.entry ∙ filled_text made.ts r.items);
+  asked = (ap (batch_on (replica_of old)) (sym same) ∙ made.asked, h new.store ∙ ap (λ (x : Entry). after_text x.txs) made.entry ∙ filled_text made.ts old.items);
   may = made.may;
   page = made.page;
   entry = made.entry;
   cites = made.cites;
+  numbers = made.numbers;
 }

@@ -1,6 +1,6 @@
 // Operations as a line writes them, over a page's store: the items that they remove are the list's,
 // and those that they insert cite values.
-ghost use Rattle.std.specs.Prelude.{◌≡◌, ◌≤◌, ◌+◌, None, IfOk, OnOk, drop, length};
+ghost use Rattle.std.specs.Prelude.{◌≡◌, ◌≤◌, ◌<◌, ◌+◌, ◌^◌, None, IfErr, IfOk, OnErr, OnOk, drop, length};
 ghost use Rattle.model_change.specs.Store.{cited, fill};
 ghost use Rattle.model_change.specs.Transaction.{all_inserted};
 ghost use Rattle.model_edit.specs.Edits as model_edits;
@@ -36,10 +36,11 @@ fn passed(op: &OpWords) -> usize
     }
 }
 
-/// The length of the list that operations need. A length that no `usize` counts is a want of memory
-/// like any other: what a line can write, below 2^32 each, doesn't add up to one.
+/// The length of the list that operations need. Want of memory comes only where no `usize` counts
+/// it: what a line can write, below 2^32 each, doesn't add up to that.
 fn needs(ops: &[OpWords]) -> Result<usize, Memory>
-    ensures { IfOk result (λ needs. needs ≡ model.needs ops.now) }
+    ensures counted { IfOk result (λ needs. needs ≡ model.needs ops.now) }
+    ensures memory { OnErr result (2 ^ 64 ≤ model.needs ops.now) }
 {
     let mut sum: usize = 0;
     for op in ops {
@@ -175,12 +176,17 @@ fn ops_on(
 ///
 /// `BadLength` comes exactly where the items that they pass and remove aren't as many as the list
 /// has. Lengths that add up to more than 2^60, those of inserted items among them, are a want of
-/// memory like any other.
+/// memory like any other. That never comes in the place of `BadLength`, unless the items that are
+/// passed and removed are more than a `usize` counts.
 pub fn applied_draft(alloc: Global, doc: Doc<'_>, ops: &[OpWords]) -> Result<Draft, ChangeStop>
     requires written { IsWritten (change.Apply ops.now) }
     requires page { IsPage doc.store.now doc.list.now.items doc.tree.now }
-    ensures { Drafts doc.entry.store.now (model.transaction_of_ops (page_items doc.entry) ops.now)
-        result }
+    ensures drafts { Drafts doc.entry.store.now
+        (model.transaction_of_ops (page_items doc.entry) ops.now) result }
+    ensures memory { IfErr result (λ stop.
+        stop ≡ ChangeStop.Memory
+        → model.needs ops.now < 2 ^ 64
+        → model.needs ops.now ≡ length (page_items doc.entry)) }
 {
     let has = doc.list.len();
     let needs = needs(ops)?;

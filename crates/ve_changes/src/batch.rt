@@ -30,8 +30,8 @@ fn perform_one<L: Ledger>(
     requires sound { Sound trial.old.page.items }
     requires written { IsWritten change.now }
     ensures ok { IfOk result (
-        IsPerformed (replica_of trial.old.page) (change_on (replica_of trial.old.page) change.now)
-        (replica_of trial.new.page)) }
+        IsPerformed trial.old.page (change_on (replica_of trial.old.page) change.now)
+        trial.new.page) }
     ensures refused { IfErr result (λ why.
         IsRefused why (change_on (replica_of trial.old.page) change.now)) }
     ensures first { trial.new.first ≡ trial.old.first }
@@ -65,8 +65,8 @@ fn perform_each<L: Ledger>(
     requires written { AllWritten changes.now }
     requires nothing { entry.old ≡ no_entry (length trial.old.page.store) }
     ensures ok { OnOk result (
-        IsBatch (replica_of trial.old.page) (batch_on (replica_of trial.old.page) changes.now)
-        (replica_of trial.new.page) entry.new) }
+        IsBatch trial.old.page (batch_on (replica_of trial.old.page) changes.now) trial.new.page
+        entry.new) }
     ensures refused { IfErr result (
         IsBatchRefused (batch_on (replica_of trial.old.page) changes.now)) }
     ensures first { trial.new.first ≡ trial.old.first }
@@ -114,8 +114,8 @@ pub fn perform_all<L: Ledger>(
     requires sound { Sound trial.old.page.items }
     requires written { AllWritten changes.now }
     ensures ok { IfOk result (
-        IsBatch (replica_of trial.old.page) (batch_on (replica_of trial.old.page) changes.now)
-        (replica_of trial.new.page)) }
+        IsBatch trial.old.page (batch_on (replica_of trial.old.page) changes.now)
+        trial.new.page) }
     ensures refused { IfErr result (
         IsBatchRefused (batch_on (replica_of trial.old.page) changes.now)) }
     ensures first { trial.new.first ≡ trial.old.first }

@@ -1,11 +1,11 @@
 // The draft of each builder's transaction, or the refusal that its fault is.
-ghost use Rattle.std.specs.Prelude.{◌≡◌, IsOk, IfErr};
+ghost use Rattle.std.specs.Prelude.{◌≡◌, false, IsOk, IfErr};
 ghost use Rattle.std.specs.Str.{chars};
 ghost use Rattle.model_edit.specs.Convert.{convert};
-ghost use Rattle.model_edit.specs.Insert.{split};
+ghost use Rattle.model_edit.specs.Insert.{is_bad_offset, split};
 ghost use Rattle.model_edit.specs.Marking.{marking, unmarking};
 ghost use Rattle.model_edit.specs.Remove.{removal};
-ghost use Rattle.model_edit.specs.Wrap.{wrap};
+ghost use Rattle.model_edit.specs.Wrap.{is_bad_wrap, wrap};
 ghost use Rattle.model_world.specs.Edits.{built_transaction};
 ghost use Rattle.ve_build_insert.specs.Typed.{text_meant, plain_text_meant};
 ghost use Rattle.ve_build_shape.specs.Setting.{attribute_spelled};
@@ -46,8 +46,10 @@ pub fn text_like_left(
     text: &str,
 ) -> Result<Draft, ChangeStop>
     requires page { IsPage doc.store.now doc.list.now.items doc.tree.now }
-    ensures { Drafts doc.entry.store.now (built_transaction (text_meant doc.entry at text.now))
-        result }
+    ensures drafts { Drafts doc.entry.store.now
+        (built_transaction (text_meant doc.entry at text.now)) result }
+    ensures memory { IfErr result (λ stop.
+        stop ≡ ChangeStop.Memory → is_bad_offset (page_items doc.entry) at ≡ false) }
 {
     let mut values = NewValues::new(alloc, doc.store);
     let tx = text_insertion(alloc, doc, at, text, &mut values)?;
@@ -57,8 +59,10 @@ pub fn text_like_left(
 /// A text put in without marks.
 pub fn plain_text(alloc: Global, doc: Doc<'_>, at: usize, text: &str) -> Result<Draft, ChangeStop>
     requires page { IsPage doc.store.now doc.list.now.items doc.tree.now }
-    ensures { Drafts doc.entry.store.now
+    ensures drafts { Drafts doc.entry.store.now
         (built_transaction (plain_text_meant doc.entry at text.now)) result }
+    ensures memory { IfErr result (λ stop.
+        stop ≡ ChangeStop.Memory → is_bad_offset (page_items doc.entry) at ≡ false) }
 {
     let mut values = NewValues::new(alloc, doc.store);
     let tx = plain_text_insertion(alloc, doc, at, text, &mut values)?;
@@ -147,8 +151,10 @@ pub fn wrap_draft(
     plan: &WrapPlan,
 ) -> Result<Draft, ChangeStop>
     requires page { IsPage doc.store.now doc.list.now.items doc.tree.now }
-    ensures { Drafts doc.entry.store.now
+    ensures drafts { Drafts doc.entry.store.now
         (built_transaction (wrap (page_items doc.entry) from to plan.now)) result }
+    ensures memory { IfErr result (λ stop.
+        stop ≡ ChangeStop.Memory → is_bad_wrap (page_items doc.entry) from to ≡ false) }
 {
     let mut values = NewValues::new(alloc, doc.store);
     let tx = wrap(alloc, doc, from, to, plan, &mut values)?;

@@ -1,13 +1,14 @@
 // Changes as drafts.
-ghost use Rattle.std.specs.Prelude.{◌≡◌, IfOk, IfErr};
+ghost use Rattle.std.specs.Prelude.{◌≡◌, false, IfOk, IfErr};
 ghost use Rattle.std.specs.Str.{chars};
+ghost use Rattle.model_edit.specs.Insert.{is_bad_offset};
 ghost use Rattle.model_world.specs.Edits.{built_transaction, change_of, text_typed};
 ghost use Rattle.model_world_law.specs.Fit.{IsWritten};
 ghost use Rattle.ve_build_shape.specs.Setting.{value_spelled};
 ghost use Rattle.ve_editor.specs.Page.{IsPage};
 ghost use Rattle.ve_offsets.specs.Docs.{page_items};
 ghost use Rattle.ve_changes.specs.Stops.{IsRefused};
-ghost use Rattle.ve_changes.specs.Drafts.{Drafts, IsDrafted};
+ghost use Rattle.ve_changes.specs.Drafts.{Drafts, IsDrafted, MayWantDraft};
 
 use crate::ChangeStop;
 use crate::applied::applied_draft;
@@ -31,8 +32,10 @@ fn typed(
     marks: TextMarks,
 ) -> Result<Draft, ChangeStop>
     requires page { IsPage doc.store.now doc.list.now.items doc.tree.now }
-    ensures { Drafts doc.entry.store.now
+    ensures drafts { Drafts doc.entry.store.now
         (built_transaction (text_typed marks (page_items doc.entry) at text.now)) result }
+    ensures memory { IfErr result (λ stop.
+        stop ≡ ChangeStop.Memory → is_bad_offset (page_items doc.entry) at ≡ false) }
 {
     match marks {
         TextMarks::Left => text_like_left(alloc, doc, at, text.as_str()),
@@ -56,6 +59,8 @@ fn spelled(value: &Option<Text>) -> Option<&str>
 /// It is refused as the change's builder refuses, with the position, the range or the depth that
 /// the builder names. Operations as they are written are refused with the lengths where these
 /// differ. They have to be in normal form, as a line that was read writes them.
+///
+/// Want of memory comes only where `MayWantDraft` says so: mostly where nothing else refuses it.
 pub fn change_draft(alloc: Global, doc: Doc<'_>, change: &EditCommand) -> Result<Draft, ChangeStop>
     requires written { IsWritten change.now }
     requires page { IsPage doc.store.now doc.list.now.items doc.tree.now }
@@ -63,6 +68,8 @@ pub fn change_draft(alloc: Global, doc: Doc<'_>, change: &EditCommand) -> Result
         IsDrafted doc.entry.store.now (change_of (page_items doc.entry) change.now)) }
     ensures refused { IfErr result (λ why.
         IsRefused why (change_of (page_items doc.entry) change.now)) }
+    ensures memory { IfErr result (λ why.
+        why ≡ ChangeStop.Memory → MayWantDraft (page_items doc.entry) change.now) }
 {
     match change {
         EditCommand::Text { at, text, marks } => typed(alloc, doc, *at, text, *marks),

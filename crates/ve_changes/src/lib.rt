@@ -3,9 +3,10 @@
 //!
 //! Proved: but for want of memory, each change, and each move of a row, a column or a list item, is
 //! the draft that the model says, over the page's store and with just the values that the store
-//! takes. Else it is the model's refusal. Changes made in turn are the model's transactions and one
-//! entry, or the first refusal with its number. They take no more steps than the `Cost` of
-//! model_world says.
+//! takes. Else it is the model's refusal. For a change, memory is wanting only where `MayWantDraft`
+//! of `Drafts` says so: mostly where the model refuses nothing. Changes made in turn are the
+//! model's transactions and one entry, or the first refusal with its number. They take no more
+//! steps than the `Cost` of model_world says.
 //!
 //! - `change_draft` gives the draft of a change over a page's store, or the refusal that answers
 //!   it. `move_draft` gives the draft of a row, a column or a list item that is moved. Each calls

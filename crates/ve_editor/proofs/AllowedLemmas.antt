@@ -6,6 +6,8 @@ use Rattle.model_items.specs.declared.plain_item.PlainItem.{PlainItem}
 use Rattle.model_items.specs.Plain.{plain_list}
 use Rattle.model_change.specs.Inverse.{filled}
 use Rattle.model_change.specs.Transaction.{Transaction, edited}
+use Rattle.model_edit.specs.declared.selection.Selection.{Selection}
+use Rattle.model_site.specs.Refused.{edit_cause}
 use Rattle.ve_items.specs.ItemList.{ItemList}
 use Rattle.ve_repair.specs.Repaired.{IsTreeOfAfter}
 use Rattle.ve_tree.specs.declared.tree.Tree.{Tree}
@@ -18,7 +20,9 @@ use Rattle.ve_tx.specs.declared.draft.Draft.{Draft}
 use Rattle.ve_tx.proofs.SplicedLemmas.{spliced-cites}
 use Rattle.ve_editor.specs.declared.perform.Performing.{Performing}
 use Rattle.ve_editor.specs.Edited.{drafted}
+use Rattle.ve_editor.specs.Page.{page_of}
 use Rattle.ve_editor.specs.Prepared.{IsAllowed, MayPerform}
+use Rattle.ve_editor.proofs.CauseLemmas.{cause_of_list}
 use Rattle.ve_editor.proofs.RelinkLemmas.{made_tree}
 
 module _ (d : Draft) (old new : List Value) (items : List Item) (change : Change) (allowed : IsAllowed d old new items change) where
@@ -28,6 +32,12 @@ module _ (d : Draft) (old new : List Value) (items : List Item) (change : Change
 
   pub made_new : plain_list new (spliced_by items change.splices.items) ≡ edited (by_value new d.tx) (plain_list new items)
   made_new = allowed.made ∙ sym (over_new edited)
+
+-- no cause refuses it
+pub allowed_cause : (d : Draft) (old new : List Value) (items : List Item) (change : Change) (selected : Selection) → IsAllowed d old new items change →
+    edit_cause (drafted old d) (page_of old items selected) ≡ None
+allowed_cause d old new items change selected allowed =
+    cause_of_list (drafted old d) (page_of old items selected) new (spliced_by items change.splices.items) allowed.applies allowed.made allowed.store ∙ allowed.allowed
 
 -- the list is known under two names
 pub allowed_as : (d : Draft) (old new : List Value) (items others : List Item) (change : Change) → others ≡ items → IsAllowed d old new items change → IsAllowed d old new others change

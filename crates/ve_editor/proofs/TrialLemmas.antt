@@ -1,30 +1,11 @@
--- A page has nodes enough for the steps of a page without text.
-use Rattle.std.proofs.Common.{◌≡◌, ◌≤◌, ◌+◌, ◌*◌, List, [], ◌∷◌, length, arith, refl}
-use Rattle.ve_base.specs.declared.value.Value.{Value}
-use Rattle.model_items.specs.declared.item.Item.{Item}
-use Rattle.model_items.specs.Plain.{plain_list}
+-- The steps of an attempt: of a page without text, of a copy of the tree, and of the changes.
+use Rattle.std.proofs.Common.{◌≤◌, ◌+◌, ◌*◌, ℕ, suc, List, arith}
 use Rattle.model_items.specs.declared.plain_item.PlainItem.{PlainItem}
 use Rattle.model_items.specs.Cost.{cost_of_tree}
-use Rattle.model_items.specs.Law.{Lawful}
-use Rattle.model_items.specs.NodeAt.{TreeHasAllItems}
-use Rattle.model_items.specs.Tree.{Forest, Empty, Run, Branch, item_count, node_count, tree_of}
-use Rattle.ve_tree.specs.IsTree.{unvalued}
-use Rattle.ve_editor.proofs.ReadyLemmas.{steps_unvalued}
+use Rattle.model_items.specs.Tree.{node_count, number_of_nodes, tree_of}
 
-some_items : (items : List PlainItem) → Lawful items → 1 ≤ length items
-some_items [] h = cc
-some_items (item ∷ items) h = omega arith
-
-some_nodes : (law : TreeHasAllItems) (items : List PlainItem) → Lawful items → 24 ≤ cost_of_tree items
-some_nodes law items lawful = by (tree_of items) (law items lawful)
+pub within_attempt : (items : List PlainItem) (start blank made cost : ℕ) → blank ≤ start + 8 → made ≤ blank + number_of_nodes items + cost → made ≤ start + cost_of_tree items + cost
+within_attempt items start blank made cost h k = by (node_count (tree_of items)) k
   where
-    by : (f : Forest) → item_count f ≡ length items → 24 ≤ 8 * (node_count f + 2)
-    by Empty e = let some = some_items items lawful in absurd (omega (arith, e, some))
-    by (Run count later) e = omega arith
-    by (Branch kind inside later) e = omega arith
-
-pub enough_nodes : (law : TreeHasAllItems) (values : List Value) (items : List Item) → Lawful (unvalued items) → 24 ≤ cost_of_tree (plain_list values items)
-enough_nodes law values items lawful =
-    let some = some_nodes law (unvalued items) lawful in
-    let same = steps_unvalued values items (plain_list values items) refl in
-    omega (arith, some, same)
+    by : (n : ℕ) → made ≤ blank + suc n + cost → made ≤ start + 8 * (n + 2) + cost
+    by n k = omega (arith, h, k)

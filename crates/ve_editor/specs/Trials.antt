@@ -5,14 +5,15 @@ use Rattle.model_items.specs.declared.item.Item.{Item}
 use Rattle.model_change.specs.Transaction.{Transaction}
 use Rattle.model_edit.specs.declared.selection.Selection.{Selection}
 use Rattle.model_site.specs.Entries.{entry_of}
-use Rattle.model_site.specs.Replica.{Replica, all_performed}
+use Rattle.model_site.specs.Replica.{all_performed}
 use Rattle.model_site_law.specs.Sound.{AllMayRun}
 use Rattle.ve_tree.specs.declared.tree.Tree.{Tree}
 use Rattle.ve_tx.specs.Spliced.{spliced_by}
 use Rattle.ve_tx.specs.declared.entry.Entry.{Entry}
 use Rattle.ve_tx.specs.declared.splice.Splice.{Splice}
 use Rattle.ve_editor.specs.Edited.{entry_by_value, EntryCites}
-use Rattle.ve_editor.specs.Page.{LinkedPage, linked_page, nodes_of_tree, page_of}
+use Rattle.ve_editor.specs.Page.{LinkedPage, linked_page, nodes_of_tree, page_of, replica_of}
+use Rattle.ve_editor.specs.Stays.{NumbersStayOver}
 
 -- The view of a trial: its page, and what the page was when it began.
 pub record Tried : Type 0 where
@@ -24,11 +25,12 @@ abbrev pub first_page : List Value → List Item → List Splice → ℕ → Sel
 first_page store items back values selected linked = linked_page (page_of (take values store) (spliced_by items back) selected) (nodes_of_tree linked)
 
 -- Transactions that are asked for, performed one after the other on a page, give this page and this
--- entry.
-pub record IsMade (Asked : List Transaction → Type 0) (old new : Replica) (e : Entry) : Type 0 where
+-- entry, and nodes that stay over each of them keep their numbers.
+pub record IsMade (Asked : List Transaction → Type 0) (old new : LinkedPage) (e : Entry) : Type 0 where
   pub ts : List Transaction
   pub asked : Asked ts
   pub may : AllMayRun ts old.items
-  pub page : new ≡ all_performed ts old
-  pub entry : entry_by_value new.store e ≡ entry_of ts old
+  pub page : replica_of new ≡ all_performed ts (replica_of old)
+  pub entry : entry_by_value new.store e ≡ entry_of ts (replica_of old)
   pub cites : EntryCites new.store e
+  pub numbers : NumbersStayOver ts old.items old.nodes new.nodes

@@ -2,12 +2,12 @@
 ghost use Rattle.std.specs.Prelude.{◌≡◌, ◌≤◌, ◌+◌, ℕ, List, IfOk, IfErr, OnErr};
 ghost use Rattle.model_change.specs.Transaction.{Transaction};
 ghost use Rattle.model_items.specs.Cost.{cost_of_tree};
+ghost use Rattle.model_items.specs.Tree.{number_of_nodes};
 ghost use Rattle.model_site.specs.Replica.{Replica};
 ghost use Rattle.ve_editor.specs.Page.{replica_of};
 ghost use Rattle.ve_editor.specs.Trials.{IsMade};
 
 use crate::{Editor, Trial};
-use model_items::node_at_is_innermost;
 use std::sync::ledger::Ledger;
 use ve_base::Steps;
 use ve_tx::Entry;
@@ -46,7 +46,7 @@ pub trait Attempt {
         requires can { can_run self.now (replica_of trial.old.page) }
         ensures made { IfOk result (λ made.
             IsMade (λ ts. makes self.now (replica_of trial.old.page) ts made.1)
-            (replica_of trial.old.page) (replica_of trial.new.page) made.0) }
+            trial.old.page trial.new.page made.0) }
         ensures stopped { IfErr result (stops self.now (replica_of trial.old.page)) }
         ensures first { trial.new.first ≡ trial.old.first }
         ensures counted { steps.old ≤ steps.new }
@@ -67,15 +67,15 @@ fn tried<A: Attempt, L: Ledger>(
 ) -> (Editor, Result<(Entry, A::Told), A::Stop>)
     requires can { A.can_run attempt.now (replica_of editor) }
     ensures made { IfOk result.1 (λ made.
-        IsMade (λ ts. A.makes attempt.now (replica_of editor) ts made.1) (replica_of editor)
-        (replica_of result.0) made.0) }
+        IsMade (λ ts. A.makes attempt.now (replica_of editor) ts made.1) editor result.0 made.0) }
     ensures stopped { IfErr result.1 (A.stops attempt.now (replica_of editor)) }
     ensures kept { OnErr result.1 (result.0 ≡ editor) }
     ensures counted { steps.old ≤ steps.new }
     ensures steps { IfErr result.1 A.is_refusal
-        → steps.new ≤ steps.old + A.cost attempt.now (replica_of editor) }
+        → steps.new
+        ≤ steps.old + number_of_nodes editor.items + A.cost attempt.now (replica_of editor) }
 {
-    match Trial::begin(editor) {
+    match Trial::begin(editor, steps) {
         Ok(mut trial) => match attempt.run(&mut trial, steps) {
             Ok(made) => (trial.keep(), Ok(made)),
             Err(stop) => (trial.take_back(), Err(stop)),
@@ -86,9 +86,10 @@ fn tried<A: Attempt, L: Ledger>(
 
 impl Editor {
     /// Makes the changes of an attempt in place, and gives their transactions as one entry. An
-    /// `Err` changes nothing: what was made until then is taken back.
+    /// `Err` changes nothing: what was made until then is taken back. Nodes that stay over each of
+    /// the transactions keep their numbers.
     ///
-    /// The steps are those of the changes, and of one copy of the tree.
+    /// The steps are those of the changes, of one copy of the tree, and of a page without text.
     pub fn attempt<A: Attempt, L: Ledger>(
         &mut self,
         attempt: &A,
@@ -96,8 +97,8 @@ impl Editor {
     ) -> Result<(Entry, A::Told), A::Stop>
         requires can { A.can_run attempt.now (replica_of self.old) }
         ensures made { IfOk result (λ made.
-            IsMade (λ ts. A.makes attempt.now (replica_of self.old) ts made.1)
-            (replica_of self.old) (replica_of self.new) made.0) }
+            IsMade (λ ts. A.makes attempt.now (replica_of self.old) ts made.1) self.old self.new
+            made.0) }
         ensures stopped { IfErr result (A.stops attempt.now (replica_of self.old)) }
         ensures kept { OnErr result (self.new ≡ self.old) }
         ensures counted { steps.old ≤ steps.new }
@@ -105,8 +106,6 @@ impl Editor {
             → steps.new
             ≤ steps.old + cost_of_tree self.old.items + A.cost attempt.now (replica_of self.old) }
     {
-        // a page has at least as many nodes as one without text
-        node_at_is_innermost();
         let Ok(blank) = Editor::blank(self.alloc, steps) else {
             return Err(attempt.no_memory());
         };

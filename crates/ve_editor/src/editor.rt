@@ -1,7 +1,8 @@
 // A page under edit.
-ghost use Rattle.std.specs.Prelude.{◌≡◌, ◌≢◌, ◌≤◌, ◌+◌, [], ◌∷◌, All, None, map, IfOk, IfErr, OnOk, OnErr};
+ghost use Rattle.std.specs.Prelude.{◌≡◌, ◌≢◌, ◌≤◌, ◌+◌, ◌*◌, [], ◌∷◌, All, None, map, IfOk, IfErr, OnOk, OnErr};
 ghost use Rattle.model_items.specs.Law.{Lawful};
 ghost use Rattle.model_items.specs.Plain.{plain_list, AreDistinct, CitesWell};
+ghost use Rattle.model_items.specs.Tree.{tree_of, node_count};
 ghost use Rattle.model_edit.specs.Translate.{between};
 ghost use Rattle.model_site.specs.Entries.{cut_back, entry_against, entry_of, reverted};
 ghost use Rattle.model_site.specs.Refused.{edit_cause};
@@ -78,7 +79,7 @@ impl Editor {
     ghost use Rattle.ve_editor.specs.Counted.{steps_over};
 
     /// An editor of a lawful list whose items cite values of the store, with the selection at the
-    /// start. Its tree is built, in at most eight steps for each node and sixteen more.
+    /// start. Its tree is built, in at most six steps for each node and two more.
     pub fn new<L: Ledger>(
         alloc: Global,
         list: Linear,
@@ -91,6 +92,8 @@ impl Editor {
             replica_of editor ≡ page_of store list.items (between 0 0)) }
         ensures counted { steps.old ≤ steps.new }
         ensures steps { steps.new ≤ steps.old + cost_of_tree (plain_list store list.items) }
+        ensures six_a_node { steps.new
+            ≤ steps.old + (6 * node_count (tree_of (plain_list store list.items)) + 2) }
     {
         let tree = Tree::build(alloc, &list, steps)?;
         Ok(Editor {
@@ -105,17 +108,17 @@ impl Editor {
         })
     }
 
-    /// An editor of equal list, store and selection. Its tree is copied node by node. That links
-    /// nothing anew, but the clause leaves it the steps of a tree that is built: so a body that
-    /// copies the page where it need not exceeds its own bound.
-    pub fn copy<L: Ledger>(&self, steps: &mut Steps<L>) -> Result<Editor, Memory>
-        ensures ok { IfOk result (λ copy. copy ≡ self.now) }
+    /// An editor of equal list, store and selection. Both lists have their blocks in common until one
+    /// is written. The tree is copied node by node, one step each.
+    pub fn share<L: Ledger>(&mut self, steps: &mut Steps<L>) -> Result<Editor, Memory>
+        ensures kept { self.new ≡ self.old }
+        ensures ok { IfOk result (λ copy. copy ≡ self.old) }
         ensures counted { steps.old ≤ steps.new }
-        ensures steps { steps.new ≤ steps.old + cost_of_tree self.now.items }
+        ensures steps { steps.new ≤ steps.old + cost_of_tree self.old.items }
     {
-        let list = self.list.copy(self.alloc)?;
         let store = self.store.copy(self.alloc)?;
-        let tree = self.tree.copy(self.alloc)?;
+        let tree = self.tree.copy(self.alloc, steps)?;
+        let list = self.list.share(self.alloc)?;
         Ok(Editor {
             list,
             store,
@@ -129,7 +132,7 @@ impl Editor {
     /// out.
     pub(crate) fn blank<L: Ledger>(alloc: Global, steps: &mut Steps<L>) -> Result<Editor, Memory>
         ensures counted { steps.old ≤ steps.new }
-        ensures steps { steps.new ≤ steps.old + 24 }
+        ensures steps { steps.new ≤ steps.old + 8 }
     {
         let mut list = Linear::new(alloc);
         list.extend(&NO_TEXT)?;
@@ -173,9 +176,9 @@ impl Editor {
     /// fails. Last, it would have over `MAX_ITEMS` items, or the store over `MAX_VALUES` values.
     /// All memory is taken before anything changes, and an `Err` changes nothing.
     ///
-    /// Nodes are written, made or let go only where no cause refuses it: in at most eight steps for
-    /// each node that the transaction touches, and sixteen more. Nodes that stay keep their
-    /// numbers.
+    /// Nodes are written, made or let go only where no cause refuses it, also where memory is
+    /// wanting. That takes at most eight steps for each node that the transaction touches, and
+    /// sixteen more. Nodes that stay keep their numbers.
     pub fn perform<L: Ledger>(
         &mut self,
         draft: &Draft,
@@ -202,6 +205,8 @@ impl Editor {
         ensures steps { steps.new
             ≤ steps.old + cost_of_transaction (drafted self.old.store draft.now) self.old.items }
         ensures unstepped { IfErr result (λ why. why ≢ EditFault.Memory → steps.new ≡ steps.old) }
+        ensures steps_if_allowed { edit_cause (drafted self.old.store draft.now) (replica_of self.old) ≢ None
+            → steps.new ≡ steps.old }
     {
         let before = self.store.len();
         match ready(
@@ -320,7 +325,7 @@ impl Editor {
             let back = txs[0].inverse(self.alloc)?;
             return self.put_back(&back, steps);
         }
-        let mut copy = self.copy(steps)?;
+        let mut copy = self.share(steps)?;
         copy.put_all_back(txs, steps)?;
         *self = copy;
         Ok(())
@@ -413,7 +418,7 @@ impl Editor {
         if txs.len() == 1 {
             return self.perform_other(&txs[0], values, steps);
         }
-        let mut grown = self.copy(steps)?;
+        let mut grown = self.share(steps)?;
         let kept = grown.perform_others(txs, values, steps)?;
         *self = grown;
         Ok(kept)

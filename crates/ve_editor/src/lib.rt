@@ -18,14 +18,16 @@
 //! The tree becomes that of the new list as the last step that may fail, before the list itself
 //! changes (`ve_repair::relink`); after it the list takes no memory. At want of memory the list,
 //! the values and the selection are as before, and the tree is the list's still. The steps are
-//! bounded by how many nodes a transaction touches. Nodes that stay keep their numbers, as a clause
-//! `numbers` of `perform`, `admit` and `revert` says, and of the two in place (`NumbersStay`). After
-//! a refusal each number has the node that it had (`IsUnchanged`).
+//! bounded by how many nodes a transaction touches; none is counted of a draft that the model
+//! refuses. Nodes that stay keep their numbers (`NumbersStay`): a clause `numbers` says so of
+//! `perform`, `admit` and `revert`, of the two in place and of a trial's `perform`, and `IsMade` of
+//! each transaction of an attempt. After a refusal each number has the node that it had
+//! (`IsUnchanged`).
 //!
 //! Changes that are to be made all or none are an `Attempt`: `Editor::attempt` makes them in place,
 //! on a `Trial` of the page, and takes them back where one of them stops. A trial copies the tree's
-//! nodes alone. Of the list it notes what each change takes out, and has it keep room for that; the
-//! store only grows meanwhile, and is cut. So going back takes no memory.
+//! nodes alone, one step each. Of the list it notes what each change takes out, and has it keep room
+//! for that; the store only grows meanwhile, and is cut. So going back takes no memory.
 //!
 //! Definitions, in reading order: `Page` (the invariant of the type and its view), `Stays` (which
 //! nodes keep their numbers), `Edited` (drafts and entries by value; what may be performed or taken
@@ -41,10 +43,10 @@
 //! `revert` asks that its reversals apply and leave lawful lists, and that no value is cut that
 //! stays cited. So its one refusal is want of memory. Values are cut off after the last reversal.
 //!
-//! One transaction counts no step of a copy; several count the tree of the copy and of the lists
-//! that they make. So an editor that copied the page for each undo wouldn't meet the bound. Who
-//! makes many entries at once copies the page once, and calls `admit_in_place` and
-//! `revert_in_place` on the copy, which count no more copies.
+//! A copied node is a step. The bound of one transaction doesn't grow with the page, and that of
+//! several has one copy of it. So an editor that copied the page for each undo wouldn't meet the
+//! bound. Who makes many entries at once copies the page once, and calls `admit_in_place` and
+//! `revert_in_place` on the copy, whose bounds have no copy.
 #![tactic(auto)]
 
 mod attempt;

@@ -1,9 +1,10 @@
 // A draft made ready to be performed on the page of a trial, with what takes it back.
-ghost use Rattle.std.specs.Prelude.{◌≡◌, ◌≢◌, ◌≤◌, ◌+◌, ◌++◌, length, take, IfOk, IfErr, OnOk, OnErr};
+ghost use Rattle.std.specs.Prelude.{◌≡◌, ◌≢◌, ◌≤◌, ◌+◌, ◌++◌, None, length, take, IfOk, IfErr, OnOk, OnErr};
 ghost use Rattle.model_change.specs.Cost.{cost_of_transaction};
 ghost use Rattle.model_edit.specs.Translate.{between};
 ghost use Rattle.model_items.specs.Plain.{plain_list};
 ghost use Rattle.model_site.specs.Refused.{edit_cause};
+ghost use Rattle.ve_repair.specs.Kept.{KeepsNumbers};
 ghost use Rattle.ve_repair.specs.Repaired.{SameNodes};
 ghost use Rattle.ve_tree.specs.IsTree.{unvalued};
 ghost use Rattle.ve_tree.specs.TreeOf.{IsTreeOf};
@@ -61,6 +62,8 @@ pub fn ready_on_trial<L: Ledger>(
     requires page { IsPage store.old list.old.items tree.old }
     requires draft { IsDraftOf store.old draft.now }
     ensures ok { IfOk result (MayPerform draft.now store.old store.new list.new tree.new) }
+    ensures numbers { OnOk result (
+        KeepsNumbers tree.old.arena tree.new.arena tree.old.root draft.now.tx list.old.items) }
     ensures notes { IfOk result (λ ready.
         back.new ≡ back.old ++ backward list.old.items ready.change.splices.items) }
     ensures owed { IfOk result (λ ready.
@@ -80,6 +83,9 @@ pub fn ready_on_trial<L: Ledger>(
     ensures steps { steps.new
         ≤ steps.old + cost_of_transaction (drafted store.old draft.now) (plain_list store.old list.old.items) }
     ensures unstepped { IfErr result (λ why. why ≢ EditFault.Memory → steps.new ≡ steps.old) }
+    ensures steps_if_allowed { edit_cause (drafted store.old draft.now) (page_of store.old list.old.items (between 0 0))
+        ≢ None
+        → steps.new ≡ steps.old }
 {
     let before = store.len();
     let change = checked(alloc, list, store, tree, draft)?;

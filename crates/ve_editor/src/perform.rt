@@ -165,6 +165,9 @@ pub fn ready<L: Ledger>(
     ensures steps { steps.new
         ≤ steps.old + cost_of_transaction (drafted store.old draft.now) (plain_list store.old list.old.items) }
     ensures unstepped { IfErr result (λ why. why ≢ EditFault.Memory → steps.new ≡ steps.old) }
+    ensures steps_if_allowed { edit_cause (drafted store.old draft.now) (page_of store.old list.old.items (between 0 0))
+        ≢ None
+        → steps.new ≡ steps.old }
 {
     let before = store.len();
     let change = checked(alloc, list, store, tree, draft)?;

@@ -2,9 +2,11 @@
 ghost use Rattle.std.specs.Prelude.{◌≡◌, ◌≢◌, ◌≤◌, ◌+◌, ◌∷◌, [], None, IfOk, IfErr, OnOk, OnErr};
 ghost use Rattle.model_change.specs.Cost.{cost_of_transaction};
 ghost use Rattle.model_items.specs.Plain.{plain_list};
+ghost use Rattle.model_items.specs.Tree.{number_of_nodes};
 ghost use Rattle.model_site.specs.Entries.{entry_of};
 ghost use Rattle.model_site.specs.Refused.{edit_cause};
 ghost use Rattle.model_site.specs.Replica.{performed};
+ghost use Rattle.ve_tree.specs.IsTree.{IsTree};
 
 use crate::Editor;
 use crate::back::Back;
@@ -82,14 +84,16 @@ impl Trial {
     ghost use Rattle.ve_editor.specs.Edited.{IsDraftOf, drafted, entry_by_value, EntryCites};
     ghost use Rattle.ve_editor.specs.Page.{IsPage, nodes_of_tree, replica_of};
     ghost use Rattle.ve_editor.specs.Refusal.{IsEditRefusal};
-    ghost use Rattle.ve_editor.specs.Stays.{IsUnchanged};
+    ghost use Rattle.ve_editor.specs.Stays.{IsUnchanged, NumbersStay};
 
-    /// A trial of an editor's page. Where there is no memory for it, the editor is given back.
-    pub fn begin(editor: Editor) -> Result<Trial, Editor>
+    /// A trial of an editor's page. Where there is no memory for it, the editor is given back. Each
+    /// node of the tree is copied and counts one step, also where there is no memory.
+    pub fn begin<L: Ledger>(editor: Editor, steps: &mut Steps<L>) -> Result<Trial, Editor>
         ensures ok { IfOk result (λ trial. trial ≡ record { page = editor; first = editor }) }
         ensures err { IfErr result (λ back. back ≡ editor) }
+        ensures step_a_node { steps.new ≡ steps.old + number_of_nodes editor.items }
     {
-        match editor.tree.copy(editor.alloc) {
+        match editor.tree.copy(editor.alloc, steps) {
             Ok(first_tree) => {
                 let Editor {
                     list,
@@ -136,8 +140,9 @@ impl Trial {
         self.selection
     }
 
-    /// Performs a draft, as `Editor::perform` does: with the same entry, the same refusals, and as
-    /// many steps. What the page was when the trial began stays what it can go back to.
+    /// Performs a draft, as `Editor::perform` does: with the same entry, the same refusals, at most
+    /// as many steps, and nodes that keep their numbers. What the page was when the trial began
+    /// stays what it can go back to.
     pub fn perform<L: Ledger>(
         &mut self,
         draft: &Draft,
@@ -149,6 +154,11 @@ impl Trial {
         ensures page { OnOk result (
             replica_of self.new.page
             ≡ performed (drafted self.old.page.store draft.now) (replica_of self.old.page)) }
+        ensures numbers { OnOk result (
+            NumbersStay (drafted self.old.page.store draft.now) self.old.page.items
+            self.old.page.nodes self.new.page.nodes) }
+        ensures tree { OnOk result (
+            IsTree self.new.page.nodes.slots self.new.page.nodes.root self.new.page.items) }
         ensures entry { IfOk result (λ entry.
             entry_by_value self.new.page.store entry
             ≡ entry_of (drafted self.old.page.store draft.now ∷ []) (replica_of self.old.page)) }
@@ -163,6 +173,8 @@ impl Trial {
             ≤ steps.old
             + cost_of_transaction (drafted self.old.page.store draft.now) self.old.page.items }
         ensures unstepped { IfErr result (λ why. why ≢ EditFault.Memory → steps.new ≡ steps.old) }
+        ensures steps_if_allowed { edit_cause (drafted self.old.page.store draft.now) (replica_of self.old.page) ≢ None
+            → steps.new ≡ steps.old }
     {
         let before = self.store.len();
         let noted = self.back.len();

@@ -9,7 +9,7 @@ use crate::key::{LentGroup, LentKey};
 use indexmap::IndexMap;
 use model_items::Item;
 use std::alloc::Global;
-use ve_base::{Memory, RefKey, Text, Value, ValueId};
+use ve_base::{Hashing, Memory, RefKey, Text, Value, ValueId};
 use ve_items::Linear;
 use ve_kinds::Kind;
 use ve_store::Store;
@@ -35,14 +35,17 @@ pub struct Cited<'a> {
 #[derive(Drop)]
 pub struct Notes<'a> {
     pub refs: Vec<Cited<'a>>,
-    pub keys: IndexMap<LentKey<'a>, Seen>,
-    pub groups: IndexMap<LentGroup<'a>, u32>,
-    pub bodies: IndexMap<LentKey<'a>, usize>,
+    pub keys: IndexMap<LentKey<'a>, Seen, Hashing>,
+    pub groups: IndexMap<LentGroup<'a>, u32, Hashing>,
+    pub bodies: IndexMap<LentKey<'a>, usize, Hashing>,
 }
 
 /// Counts a new key of a group, and answers its number. A count that no `u32` holds is a want of
 /// memory like any other.
-fn count_in<'a>(groups: &mut IndexMap<LentGroup<'a>, u32>, group: &'a Text) -> Result<u32, Memory>
+fn count_in<'a>(
+    groups: &mut IndexMap<LentGroup<'a>, u32, Hashing>,
+    group: &'a Text,
+) -> Result<u32, Memory>
     ensures number { IfOk result (λ number. number ≡ suc (counted groups.old group.now)) }
     ensures counts { OnOk result (Counts groups.old groups.new group.now) }
 {
@@ -92,8 +95,8 @@ impl Seen {
 
 /// The notes of a key after one more reference to it.
 fn see<'a>(
-    keys: &IndexMap<LentKey<'a>, Seen>,
-    groups: &mut IndexMap<LentGroup<'a>, u32>,
+    keys: &IndexMap<LentKey<'a>, Seen, Hashing>,
+    groups: &mut IndexMap<LentGroup<'a>, u32, Hashing>,
     cited: Cited<'a>,
     owner: bool,
 ) -> Result<Seen, Memory>
@@ -112,7 +115,7 @@ fn see<'a>(
 
 /// Notes where the body of a key opens, unless one opened before.
 fn note_body<'a>(
-    bodies: &mut IndexMap<LentKey<'a>, usize>,
+    bodies: &mut IndexMap<LentKey<'a>, usize, Hashing>,
     key: &'a RefKey,
     at: usize,
 ) -> Result<(), Memory>
@@ -131,9 +134,9 @@ impl<'a> Notes<'a> {
     {
         Notes {
             refs: Vec::new(alloc),
-            keys: IndexMap::new(alloc),
-            groups: IndexMap::new(alloc),
-            bodies: IndexMap::new(alloc),
+            keys: IndexMap::with_hasher(alloc, Hashing::new()),
+            groups: IndexMap::with_hasher(alloc, Hashing::new()),
+            bodies: IndexMap::with_hasher(alloc, Hashing::new()),
         }
     }
 

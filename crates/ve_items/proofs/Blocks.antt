@@ -1,6 +1,6 @@
 -- Blocks one after the other, and stacks of them.
-use Rattle.std.proofs.Common.{◌≡◌, ◌+◌, ◌-◌, ◌<◌, ◌≤◌, ℕ, zero, suc, List, [], ◌∷◌, ◌++◌, length, take, get_or, refl, sym, ap, ◌∙◌, subst, append_assoc, arith, length-append}
-use Rattle.std.proofs.lemmas.List.{reverse-append, get_or_push, get_or_append_left, take_more}
+use Rattle.std.proofs.Common.{◌≡◌, ◌+◌, ◌-◌, ◌<◌, ◌≤◌, ℕ, zero, suc, List, [], ◌∷◌, ◌++◌, length, take, drop, get_or, refl, sym, ap, ◌∙◌, subst, append_assoc, arith, length-append}
+use Rattle.std.proofs.lemmas.List.{reverse-append, get_or_push, get_or_append_left, take_more, take-append-drop}
 use Rattle.std.specs.Prelude.{slice_set}
 use Rattle.std.specs.List.{All}
 use Rattle.std.proofs.lemmas.List.Elements.{All-push}
@@ -112,6 +112,18 @@ no_blocks ((x ∷ block) ∷ blocks) rule none = cc
 -- one block more of a list
 pub joined_next : {A : Type 0} (blocks : List (List A)) (k : ℕ) → k < length blocks → joined (take (k + 1) blocks) ≡ joined (take k blocks) ++ get_or blocks k []
 joined_next blocks k lt = ap joined (take_more blocks k [] lt) ∙ joined_push (take k blocks) (get_or blocks k [])
+
+-- the first blocks hold no more than all
+pub joined_within : {A : Type 0} (blocks : List (List A)) (k : ℕ) → length (joined (take k blocks)) ≤ length (joined blocks)
+joined_within blocks k =
+    let parts : joined blocks ≡ joined (take k blocks) ++ joined (drop k blocks) = sym (ap joined (take-append-drop k blocks)) ∙ joined_append (take k blocks) (drop k blocks) in
+    omega (arith, ap length parts, length-append (joined (take k blocks)) (joined (drop k blocks)))
+
+-- each of the blocks keeps its size
+pub rule_at : {A : Type 0} (blocks : List (List A)) (k : ℕ) → k < length blocks → AreBlocks blocks → IsBlock (get_or blocks k [])
+rule_at [] k lt rule = absurd (omega (arith, lt))
+rule_at (block ∷ blocks) zero lt rule = rule.0
+rule_at (block ∷ blocks) (suc k) lt rule = rule_at blocks k (omega (arith, lt)) rule.2
 
 -- what a block may have, without the first one
 may_below : {A : Type 0} (a : List A) (blocks : List (List A)) (k size : ℕ) → MayHave (a ∷ blocks) (suc k) size → MayHave blocks k size

@@ -1,100 +1,93 @@
-// One block of a list: a short run of items in memory that it has taken beforehand.
-ghost use Rattle.std.specs.Prelude.{◌≡◌, ◌≤◌, ◌<◌, ◌+◌, ◌-◌, ◌++◌, [], IfOk, length, take, drop, vec_capacity};
+// A block of a list, of that list alone or of its copies too.
+ghost use Rattle.std.specs.Arc.{arc_value};
+ghost use Rattle.std.specs.Prelude.{◌≡◌, ◌≤◌, ◌+◌, ◌-◌, ◌++◌, [], None, IfOk, IfSome, length, take, drop};
 ghost use Rattle.ve_base.specs.Limits.{max_block};
+ghost use Rattle.ve_items.specs.SharedPlaces.{items_of};
 ghost use Rattle.ve_items.specs.Substitution.{spliced};
 
+use crate::places::Places;
 use model_items::Item;
 use std::alloc::Global;
 use std::marker::Model;
-use ve_base::{MAX_BLOCK, Memory};
+use std::sync::Arc;
+use ve_base::Memory;
 
 /// A block, seen as the list of its items. It has memory for `MAX_BLOCK` of them from the start.
-/// They stand in one piece with free places on both sides, so that a change moves the shorter
-/// part.
+///
+/// A list and its copies have their blocks in common. Whoever writes first copies the block, into
+/// memory that was taken when it was shared: so a write never fails.
 pub struct Block {
-    // free places, whatever stands in them, and then the items
-    places: Vec<Item>,
-    // how many free places stand before the items
-    first: usize,
+    own: Places,
+    // the items, where other lists may have them too; its own places wait for the first write then
+    shared: Option<Arc<Places>>,
 }
 
 // This is written out, so that no proof of a caller looks into a block that it lets go.
 impl Drop for Block {
     fn drop(self) {
-        let Block { places, first: _ } = self;
-        drop(places);
+        let Block { own, shared } = self;
+        drop(own);
+        drop(shared);
     }
 }
 
 impl Model for Block {
-    ghost use Rattle.std.specs.Prelude.{List, ◌≤◌, length, drop, vec_capacity};
+    ghost use Rattle.std.specs.Arc.{arc_value};
+    ghost use Rattle.std.specs.Prelude.{List, ◌≤◌, length, IfSome};
     ghost use Rattle.ve_base.specs.Limits.{max_block};
     ghost use Rattle.model_items.specs.declared.item.Item.{Item};
+    ghost use Rattle.ve_items.specs.SharedPlaces.{items_of};
 
     ghost Value = { List Item };
 
-    ghost view = { λ b. drop b.first b.places.items };
+    ghost view = { λ b. items_of b.shared b.own };
 
-    ghost invariant = { λ b. (max_block ≤ vec_capacity b.places)
-        × (b.first ≤ length b.places.items) };
+    ghost invariant = { λ b. IfSome b.shared (λ places. length (arc_value places) ≤ max_block) };
 }
 
-/// How many places stay free before the items that an empty block gets.
-const FREE_BEFORE: usize = 32;
-
-/// What stands in a free place.
-const NO_ITEM: Item = Item::Char {
-    ch: ' ',
-    marks: None,
-};
-
-/// Puts items in at the end of some places, of which as many leave at the front.
-fn put_at_end(places: &mut [Item], items: &[Item])
-    requires { length items.now ≤ length places.old }
-    ensures { places.new ≡ drop (length items.now) places.old ++ items.now }
+/// Copies shared items into a block's own places, unless nobody else has them any more.
+fn part(own: &mut Places, shared: &mut Option<Arc<Places>>)
+    requires { IfSome shared.old (λ places. length (arc_value places) ≤ max_block) }
+    ensures items { own.new ≡ items_of shared.old own.old }
+    ensures none { shared.new ≡ None }
 {
-    let end = places.len() - items.len();
-    places.rotate_left(items.len());
-    places[end..].copy_from_slice(items);
-}
-
-/// Says from where on the items stand once there is room for so many more after them. They are
-/// moved to the front only where the places after them don't suffice.
-fn make_room(places: &mut Vec<Item>, first: usize, more: usize) -> usize
-    requires first { first ≤ length places.old.items }
-    requires fits { length places.old.items - first + more ≤ max_block }
-    ensures items { drop result places.new.items ≡ drop first places.old.items }
-    ensures len { length places.new.items ≡ result + (length places.old.items - first) }
-    ensures room { length places.new.items + more ≤ max_block }
-    ensures capacity { vec_capacity places.new ≡ vec_capacity places.old }
-{
-    if places.len() <= MAX_BLOCK - more {
-        return first;
+    let Some(places) = shared.take() else {
+        return;
+    };
+    match Arc::try_unwrap(places) {
+        Ok(places) => *own = places,
+        Err(places) => {
+            own.clear();
+            own.append(places.as_slice());
+        }
     }
-    let len = places.len() - first;
-    places.rotate_left(first);
-    places.truncate(len);
-    0
 }
 
-/// Puts items in at a position of those from `first` on, and says from where on the items then
-/// stand. New items are appended, and turned with the items after the position.
-fn put_by_end(places: &mut Vec<Item>, first: usize, at: usize, items: &[Item]) -> usize
-    requires within { first + at ≤ length places.old.items }
-    requires fits { length places.old.items - first + length items.now ≤ max_block }
-    requires capacity { max_block ≤ vec_capacity places.old }
-    ensures items { drop result places.new.items
-        ≡ take at (drop first places.old.items) ++ items.now
-        ++ drop at (drop first places.old.items) }
-    ensures first { result ≤ length places.new.items }
-    ensures capacity { max_block ≤ vec_capacity places.new }
+/// Has the items stand where others may have them too, if they don't yet. The block's own places
+/// are empty ones then. An `Err` changes nothing.
+fn lay_open(
+    alloc: Global,
+    own: &mut Places,
+    shared: &mut Option<Arc<Places>>,
+) -> Result<Arc<Places>, Memory>
+    ensures items { items_of shared.new own.new ≡ items_of shared.old own.old }
+    ensures open { IfOk result (λ places. arc_value places ≡ items_of shared.old own.old) }
 {
-    let first = make_room(places, first, items.len());
-    let appended = places.extend_from_slice(items).is_ok();
-    prove!(appended);
-    let from = first + at;
-    places[from..].rotate_right(items.len());
-    first
+    if let Some(places) = &*shared {
+        return Ok(places.clone()?);
+    }
+    let full = std::mem::replace(own, Places::new(alloc)?);
+    match Arc::new(alloc, full) {
+        Ok(places) => {
+            let twin: Result<_, _> = places.clone();
+            *shared = Some(places);
+            Ok(twin?)
+        }
+        Err(failed) => {
+            *own = failed.value;
+            Err(Memory)
+        }
+    }
 }
 
 impl Block {
@@ -103,34 +96,46 @@ impl Block {
         ensures { IfOk result (λ block. block ≡ []) }
     {
         Ok(Block {
-            places: Vec::with_capacity(alloc, MAX_BLOCK)?,
-            first: 0,
+            own: Places::new(alloc)?,
+            shared: None,
+        })
+    }
+
+    /// A block with the same items, which both have in common until one of them is written.
+    pub fn share(&mut self, alloc: Global) -> Result<Block, Memory>
+        requires { length self.old ≤ max_block }
+        ensures kept { self.new ≡ self.old }
+        ensures items { IfOk result (λ block. block ≡ self.old) }
+    {
+        let own = Places::new(alloc)?;
+        let shared = lay_open(alloc, &mut self.own, &mut self.shared)?;
+        Ok(Block {
+            own,
+            shared: Some(shared),
         })
     }
 
     pub fn len(&self) -> usize
         ensures { result ≡ length self.now }
     {
-        self.places.len() - self.first
+        self.as_slice().len()
     }
 
     pub fn as_slice(&self) -> &[Item]
         ensures { result.now ≡ self.now }
     {
-        &self.places[self.first..]
+        match &self.shared {
+            Some(places) => places.as_slice(),
+            None => self.own.as_slice(),
+        }
     }
 
     /// Takes all items out, and leaves free places before what is appended next.
     pub fn clear(&mut self)
         ensures { self.new ≡ [] }
     {
-        self.places.clear();
-        let extended = self
-            .places
-            .extend_from_slice(&[NO_ITEM; FREE_BEFORE])
-            .is_ok();
-        prove!(extended);
-        self.first = self.places.len();
+        self.shared = None;
+        self.own.clear();
     }
 
     /// Appends what fits. It takes no memory.
@@ -138,54 +143,25 @@ impl Block {
         requires { length self.old + length more.now ≤ max_block }
         ensures { self.new ≡ self.old ++ more.now }
     {
-        let first = make_room(&mut self.places, self.first, more.len());
-        let appended = self.places.extend_from_slice(more).is_ok();
-        prove!(appended);
-        self.first = first;
+        part(&mut self.own, &mut self.shared);
+        self.own.append(more);
     }
 
     /// Keeps the first items.
     pub fn truncate(&mut self, len: usize)
         ensures { self.new ≡ take len self.old }
     {
-        if len < self.len() {
-            self.places.truncate(self.first + len);
-        }
+        part(&mut self.own, &mut self.shared);
+        self.own.truncate(len);
     }
 
-    /// Takes so many items out from a position on. Of the items before them and those after them,
-    /// the fewer move.
+    /// Takes so many items out from a position on.
     pub fn cut_out(&mut self, at: usize, many: usize)
         requires { at + many ≤ length self.old }
         ensures { self.new ≡ take at self.old ++ drop (at + many) self.old }
     {
-        let first = self.first;
-        let from = first + at;
-        if at < self.len() - at - many {
-            self.places[first..from + many].rotate_right(many);
-            self.first = first + many;
-            return;
-        }
-        let len = self.places.len() - many;
-        self.places[from..].rotate_left(many);
-        self.places.truncate(len);
-    }
-
-    /// Puts items in from a position on. It takes no memory. The items before the position move
-    /// where they are the fewer and there is room before them, else those after it.
-    fn put_in(&mut self, at: usize, items: &[Item])
-        requires within { at ≤ length self.old }
-        requires fits { length self.old + length items.now ≤ max_block }
-        ensures { self.new ≡ take at self.old ++ items.now ++ drop at self.old }
-    {
-        let first = self.first;
-        if items.len() <= first && at < self.len() - at {
-            let from = first - items.len();
-            put_at_end(&mut self.places[from..first + at], items);
-            self.first = from;
-            return;
-        }
-        self.first = put_by_end(&mut self.places, first, at, items);
+        part(&mut self.own, &mut self.shared);
+        self.own.cut_out(at, many);
     }
 
     /// Puts items in the place of the `removed` ones from `at` on. It takes no memory.
@@ -194,7 +170,7 @@ impl Block {
         requires fits { length self.old - removed + length items.now ≤ max_block }
         ensures { self.new ≡ spliced self.old at removed items.now }
     {
-        self.cut_out(at, removed);
-        self.put_in(at, items);
+        part(&mut self.own, &mut self.shared);
+        self.own.splice(at, removed, items);
     }
 }

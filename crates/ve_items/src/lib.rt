@@ -11,17 +11,18 @@
 //!
 //! Definitions, in reading order: `ItemList` is the view of a list, and `spliced` the result of a
 //! splice. `AreBlocks` is the rule of the blocks; `StandsAt`, `MayChange` and `MayPart` are
-//! positions in them. `Pile` is the view of tables and stacks of blocks, `IsReady` the capacity
-//! that a list keeps beside its blocks. The sizes 512 and 448 of a block are `MAX_BLOCK` and
-//! `FILLED_BLOCK` of ve_base.
+//! positions in them. `items_of` is where a block's items stand. `Pile` is the view of tables and
+//! stacks of blocks, `IsReady` the capacity that a list keeps beside its blocks. The sizes 512 and
+//! 448 of a block are `MAX_BLOCK` and `FILLED_BLOCK` of ve_base.
 //!
 //! `spare` falls by as many items as a splice puts in, so several splices follow one `reserve`. A
 //! splice that inserts nothing always succeeds.
 //!
 //! `reserve(n)` takes two blocks for each of n items, but no more than n items can ever need: two
 //! neighbours hold more than 512 together. Blocks that get empty wait for later splices. A copy has
-//! equal items and no spare room. A list's length with its spare room stays below 2^64; `reserve`
-//! answers want of memory beyond it.
+//! equal items and no spare room. So has a list that shares its blocks with another: whoever writes
+//! into one first copies it, into memory that `share` took, so that no splice asks for more. A
+//! list's length with its spare room stays below 2^64; `reserve` answers want of memory beyond it.
 #![tactic(auto)]
 
 mod block;
@@ -29,6 +30,7 @@ mod edit;
 mod items;
 mod linear;
 mod moves;
+mod places;
 mod room;
 mod same;
 mod stack;

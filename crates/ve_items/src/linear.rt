@@ -1,5 +1,5 @@
 // The list of a page, kept in blocks.
-ghost use Rattle.std.specs.Prelude.{◌≡◌, ◌≤◌, ◌<◌, ◌+◌, ◌↔◌, [], Some, OnOk, OnErr, IsOk, IfOk, IsTrue, ◌-◌, ◌++◌, length, max, slice_get, slice_range};
+ghost use Rattle.std.specs.Prelude.{◌≡◌, ◌≤◌, ◌<◌, ◌+◌, ◌^◌, ◌↔◌, [], Some, OnOk, OnErr, IsOk, IfOk, IsTrue, ◌-◌, ◌++◌, length, max, slice_get, slice_range};
 ghost use Rattle.ve_items.specs.Blocks.{joined, AreBlocks};
 ghost use Rattle.ve_items.specs.Substitution.{spliced};
 
@@ -60,6 +60,23 @@ impl Model for Linear {
     ghost view = { λ l. record { items = joined l.table.blocks; spare = l.spare; blocks = l.table.blocks } };
 
     ghost invariant = { λ l. IsReady l.table l.aside (vec_len l.pool) (vec_capacity l.pool) l.spare };
+}
+
+/// Appends a block for each of those of a table, with the same items.
+fn share_blocks(alloc: Global, from: &mut Table, to: &mut Table) -> Result<(), Memory>
+    requires rule { AreBlocks from.old.blocks }
+    requires fits { length (joined from.old.blocks) < 2 ^ 64 }
+    requires empty { to.old.blocks ≡ [] }
+    requires room { length from.old.blocks ≤ to.old.room }
+    ensures kept { from.new ≡ from.old }
+    ensures blocks { OnOk result (to.new.blocks ≡ from.old.blocks) }
+    ensures room { to.new.room ≡ to.old.room }
+{
+    for k in 0..from.len() {
+        let block = from.share(alloc, k)?;
+        to.push(block);
+    }
+    Ok(())
 }
 
 impl Linear {
@@ -164,7 +181,7 @@ impl Linear {
         Ok(copy)
     }
 
-    /// A list of equal items.
+    /// A list of equal items, in blocks of its own.
     pub fn copy(&self, alloc: Global) -> Result<Linear, Memory>
         ensures items { IfOk result (λ copy. copy.items ≡ self.now.items) }
         ensures spare { IfOk result (λ copy. copy.spare ≡ 0) }
@@ -174,6 +191,30 @@ impl Linear {
             copy.extend(self.table.block(k))?;
         }
         Ok(copy)
+    }
+
+    /// A list of equal items. Both have the blocks in common, and whoever writes into one first
+    /// copies it, into memory that is taken here.
+    pub fn share(&mut self, alloc: Global) -> Result<Linear, Memory>
+        ensures kept { self.new ≡ self.old }
+        ensures items { IfOk result (λ copy. copy.items ≡ self.old.items) }
+        ensures spare { IfOk result (λ copy. copy.spare ≡ 0) }
+    {
+        let count = self.table.len();
+        let mut table = Table::new(alloc);
+        let mut aside = Stack::new(alloc);
+        let mut pool = Vec::new(alloc);
+        table.reserve(count)?;
+        aside.reserve(count)?;
+        pool.reserve(count)?;
+        share_blocks(alloc, &mut self.table, &mut table)?;
+        Ok(Linear {
+            table,
+            aside,
+            pool,
+            spare: 0,
+            alloc,
+        })
     }
 
     /// Takes the memory that splices of so many items together may need, however they are parted:

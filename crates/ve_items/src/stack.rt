@@ -1,5 +1,5 @@
 // Blocks on a stack, in a table with room that was taken beforehand.
-ghost use Rattle.std.specs.Prelude.{◌≡◌, ◌≤◌, ◌<◌, ◌+◌, ◌-◌, ◌^◌, ◌++◌, ◌∷◌, [], Some, OnOk, OnErr, IsOk, length, max, slice_get, slice_index_or, slice_set, option_to_list};
+ghost use Rattle.std.specs.Prelude.{◌≡◌, ◌≤◌, ◌<◌, ◌+◌, ◌-◌, ◌^◌, ◌++◌, ◌∷◌, [], Some, IfOk, OnOk, OnErr, IsOk, length, max, slice_get, slice_index_or, slice_set, option_to_list};
 ghost use Rattle.ve_base.specs.Limits.{max_block};
 ghost use Rattle.ve_items.specs.Substitution.{spliced_block, parted};
 
@@ -53,6 +53,17 @@ impl Stack {
         ensures { slice_get self.now.blocks k ≡ Some result.now }
     {
         self.blocks[k].as_slice()
+    }
+
+    /// A block with the items of one, counted from the lowest. Both have them in common until one of
+    /// them is written.
+    pub fn share(&mut self, alloc: Global, k: usize) -> Result<Block, Memory>
+        requires among { k < length self.old.blocks }
+        requires small { length (slice_index_or self.old.blocks k []) ≤ max_block }
+        ensures kept { self.new ≡ self.old }
+        ensures items { IfOk result (λ block. slice_get self.old.blocks k ≡ Some block) }
+    {
+        self.blocks[k].share(alloc)
     }
 
     /// Takes room for so many blocks more. An `Err` changes nothing.

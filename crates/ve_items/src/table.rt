@@ -1,5 +1,5 @@
 // The table of a list's blocks, with how many items each of them holds.
-ghost use Rattle.std.specs.Prelude.{◌≡◌, ◌≤◌, ◌<◌, ◌+◌, ◌-◌, ◌^◌, ◌++◌, ◌∷◌, [], Some, None, OnOk, OnErr, IfSome, IsSome, IsTrue};
+ghost use Rattle.std.specs.Prelude.{◌≡◌, ◌≤◌, ◌<◌, ◌+◌, ◌-◌, ◌^◌, ◌++◌, ◌∷◌, [], Some, None, IfOk, OnOk, OnErr, IfSome, IsSome, IsTrue};
 ghost use Rattle.std.specs.Prelude.{length, max, slice_get, slice_index_or, slice_set, option_to_list};
 ghost use Rattle.ve_base.specs.Limits.{max_block};
 ghost use Rattle.ve_items.specs.Blocks.{joined};
@@ -65,6 +65,16 @@ impl Table {
         ensures { slice_get self.now.blocks k ≡ Some result.now }
     {
         self.stack.block(k)
+    }
+
+    /// A block with the items of one. Both have them in common until one of them is written.
+    pub fn share(&mut self, alloc: Global, k: usize) -> Result<Block, Memory>
+        requires among { k < length self.old.blocks }
+        requires small { length (slice_index_or self.old.blocks k []) ≤ max_block }
+        ensures kept { self.new ≡ self.old }
+        ensures items { IfOk result (λ block. slice_get self.old.blocks k ≡ Some block) }
+    {
+        self.stack.share(alloc, k)
     }
 
     /// Takes room for so many blocks more. An `Err` changes nothing.

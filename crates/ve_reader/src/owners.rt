@@ -9,7 +9,7 @@ use crate::key::OwnedKey;
 use indexmap::IndexMap;
 use std::alloc::Global;
 use std::marker::Model;
-use ve_base::{Key, Memory, RefKey, Text};
+use ve_base::{Hashing, Key, Memory, RefKey, Text};
 use ve_internal::RefRead;
 
 /// The claim of a reference by its `data-mw`: its key, and the text of the body that it owns, if it
@@ -39,7 +39,7 @@ struct OwnedBody {
 /// has its own key.
 #[derive(Drop)]
 pub struct Owners {
-    bodies: IndexMap<OwnedKey, OwnedBody>,
+    bodies: IndexMap<OwnedKey, OwnedBody, Hashing>,
     // how many of them have no name
     unnamed: u32,
 }
@@ -82,7 +82,7 @@ impl Owners {
         ensures { result ≡ [] }
     {
         Owners {
-            bodies: IndexMap::new(alloc),
+            bodies: IndexMap::with_hasher(alloc, Hashing::new()),
             unnamed: 0,
         }
     }

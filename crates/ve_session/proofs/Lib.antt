@@ -3,6 +3,7 @@ pub mod FeedCosts
 pub mod TurnLemmas
 pub mod DraftLemmas
 pub mod StopLemmas
+pub mod WantLemmas
 pub mod QueueLemmas
 pub mod PatchLemmas
 pub mod CaretLemmas

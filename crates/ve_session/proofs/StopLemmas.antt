@@ -1,5 +1,5 @@
 -- A fault of the crates below is the refusal of the request.
-use Rattle.std.proofs.Common.{◌≡◌, ℕ, Bool, true, false, ap, ◌∙◌}
+use Rattle.std.proofs.Common.{◌≡◌, ℕ, Bool, true, false, Ok, Err, IfErr, refl, sym, ap, subst, ◌∙◌}
 use Rattle.std.specs.Prelude.{Result, nat_lt}
 use Rattle.model_page.specs.PageItems.{Opened}
 use Rattle.model_page.specs.OpenPage.{OpenFault}
@@ -11,10 +11,13 @@ use Rattle.model_site.specs.declared.site_fault.RedoFault.{RedoFault}
 use Rattle.model_site.specs.declared.site_fault.RedoFault.TheVariants as redone
 use Rattle.model_site.specs.declared.site_fault.SendFault.{SendFault}
 use Rattle.model_site.specs.declared.site_fault.SendFault.TheVariants as sent
+use Rattle.model_world.specs.declared.command.Request.{Request}
 use Rattle.model_world.specs.declared.command.Request.TheVariants as request
 use Rattle.model_world.specs.declared.refusal.Refusal.TheVariants.{BadEntry}
 use Rattle.model_world.specs.Answers.{Asked, Outcome, changed_or_no, refusal_outcome, sent_or_no, site_of}
 use Rattle.model_world.specs.Refusals.{open_refusal, redo_refusal, refused_as, revoke_refusal, send_refusal, undo_refusal}
+use Rattle.ve_changes.specs.declared.faults.ChangeStop.{ChangeStop}
+use Rattle.ve_changes.specs.declared.faults.ChangeStop.TheVariants as stop
 use Rattle.ve_changes.specs.Stops.{IsRefused}
 use Rattle.ve_html_tree.specs.declared.fault.HtmlFault.{HtmlFault}
 use Rattle.ve_html_tree.specs.declared.fault.HtmlFault.TheVariants as html
@@ -26,7 +29,7 @@ use Rattle.ve_read.specs.declared.fault.ReadFault.{ReadFault}
 use Rattle.ve_read.specs.declared.fault.ReadFault.TheVariants as page
 use Rattle.ve_site.specs.Refusal.{IsRedoRefusal, IsSendRefusal, IsUndoRefusal}
 use Rattle.ve_changes.specs.HtmlStops.{html_stop}
-use Rattle.ve_session.specs.Asked.{asker, outcome_completed, IsStopped}
+use Rattle.ve_session.specs.Asked.{asker, outcome_completed, IsStopped, MayWant}
 use Rattle.ve_session.specs.Stopped.{page_stop, redo_stop, revoke_stop, send_stop, undo_stop}
 use Rattle.ve_sites.specs.Shared.{Shared, site_at}
 
@@ -91,3 +94,35 @@ revoke_stops (revoked.Conflict later reversal) k i live old seen e = λ page.
     revokes (asker page old k) i live seen
     ∙ ap (λ r. changed_or_no (asker page old k) (refused_as (revoke_refusal i) (revoke_by i r (site_at old k)))) e
 revoke_stops revoked.Memory k i live old seen e = tt
+
+-- ---- want of memory: it is told of as itself alone
+
+pub undo_memory : (X : Type 0) (why : UndoFault) → (why ≡ undone.Memory → X) → undo_stop why ≡ stop.Memory → X
+undo_memory X undone.NothingToUndo h e = absurd (cc)
+undo_memory X (undone.AlreadyShared count) h e = absurd (cc)
+undo_memory X undone.Memory h e = h refl
+
+pub redo_memory : (X : Type 0) (why : RedoFault) → (why ≡ redone.Memory → X) → redo_stop why ≡ stop.Memory → X
+redo_memory X redone.NothingToRedo h e = absurd (cc)
+redo_memory X redone.Memory h e = h refl
+
+pub send_memory : (X : Type 0) (why : SendFault) → (why ≡ sent.Memory → X) → send_stop why ≡ stop.Memory → X
+send_memory X (sent.InFlight entries) h e = absurd (cc)
+send_memory X sent.NothingToSend h e = absurd (cc)
+send_memory X sent.Memory h e = h refl
+
+-- It may be wanting only if X holds.
+abbrev WantsIf : {A : Type 0} → Result A ChangeStop → Type 0 → Type 0
+WantsIf r X = IfErr r (λ why. why ≡ stop.Memory → X)
+
+-- it holds
+pub may_want : {A : Type 0} (r : Result A ChangeStop) (X : Type 0) → X → WantsIf r X
+may_want (Ok x) X h = tt
+may_want (Err why) X h = λ _. h
+
+-- for the request that is asked
+pub request_wants : {A : Type 0} (r : Result A ChangeStop) (k : ℕ) (s : Shared) (asked is : Request) → asked ≡ is → WantsIf r (MayWant is s k) → WantsIf r (MayWant asked s k)
+request_wants r k s asked is e h = subst (λ (q : Request). WantsIf r (MayWant q s k)) (sym e) h
+
+pub never : {A : Type 0} → false ≡ true → A
+never e = absurd (let no : ⊥ = cc in no)

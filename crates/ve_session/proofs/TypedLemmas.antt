@@ -1,7 +1,8 @@
--- A text typed at a caret: one change that is made in place.
-use Rattle.std.proofs.Common.{◌≡◌, ◌≤◌, ◌+◌, ℕ, true, arith, List, [], ◌∷◌, None, refl, ap, sym, subst, ◌∙◌}
+-- A text typed at a caret: one change that is made in place; and one typed over a selection.
+use Rattle.std.proofs.Common.{◌≡◌, ◌≢◌, ◌≤◌, ◌+◌, ℕ, true, false, not, arith, List, [], ◌∷◌, None, refl, ap, sym, subst, ◌∙◌, eq-eqb, ne_eqb}
 use Rattle.std.specs.Prelude.{Ok}
 use Rattle.model_change.specs.Transaction.{Transaction}
+use Rattle.model_items.specs.Cost.{cost_of_tree}
 use Rattle.model_items.specs.declared.plain_item.PlainItem.{PlainItem}
 use Rattle.model_site.specs.Refused.{edit_cause}
 use Rattle.model_site.specs.Replica.{Replica}
@@ -11,11 +12,14 @@ use Rattle.model_world.specs.declared.edit_command.EditCommand.{EditCommand}
 use Rattle.model_world.specs.declared.edit_command.EditCommand.TheVariants as change
 use Rattle.model_world.specs.declared.edit_command.TextMarks.TheVariants.{Left}
 use Rattle.model_world.specs.declared.command.Request.TheVariants as request
-use Rattle.model_world.specs.Answers.{lower, typed_or_no, typing}
+use Rattle.model_world.specs.Answers.{is_collapsed, lower, typed_or_no, typing}
 use Rattle.model_world.specs.Edits.{batch_on, change_of, change_on}
 use Rattle.model_world.specs.Cost.{cost_of_made, made_in_turn}
 use Rattle.ve_changes.proofs.BatchLemmas.{allowed_is, cost_of_lone, lone_batch, lone_refused, not_allowed, undrafted}
 use Rattle.ve_changes.proofs.TypingLemmas.{typing_caret}
+use Rattle.ve_changes.specs.Batches.{IsBatchRefused}
+use Rattle.ve_changes.specs.declared.batch_stop.BatchStop.{BatchStop}
+use Rattle.ve_changes.specs.declared.batch_stop.BatchStop.TheVariants as batch
 use Rattle.ve_changes.specs.declared.faults.ChangeStop.{ChangeStop}
 use Rattle.ve_changes.specs.declared.faults.ChangeStop.TheVariants as stop
 use Rattle.ve_changes.specs.Stops.{IsRefused, edit_stop}
@@ -23,6 +27,7 @@ use Rattle.ve_changes.proofs.StopLemmas.{edit_stops}
 use Rattle.model_change.specs.Cost.{cost_of_transactions}
 use Rattle.ve_editor.specs.Refusal.{IsEditRefusal}
 use Rattle.ve_session.specs.Asked.{asker, IsStopped}
+use Rattle.ve_session.specs.Stopped.{typing_stop}
 use Rattle.ve_session.proofs.TurnLemmas.{edit_was}
 use Rattle.ve_sites.specs.Shared.{Shared, site_at, with_site_at}
 
@@ -55,11 +60,34 @@ module _ (k : ℕ) (old : Shared) (text : List ℕ) (at : ℕ)
       IsStopped (request.TypeText text) k old (edit_stop fault)
   barred_typing t fault means e = stopped (edit_stop fault) (not_allowed r put t (edit_stop fault) means (edit_stops fault (edit_cause t r) t e))
 
+  -- it takes no copy of the page
   pub typing_cost : (t : Transaction) (before after : ℕ) → change_of r.items put ≡ Ok t → edit_cause t r ≡ None → after ≤ before + cost_of_transactions (t ∷ []) r.items →
-      after ≤ before + cost_of_made true (made_in_turn r (typing r.selection text)) r.items
+      after ≤ before + cost_of_made (not (is_collapsed r.selection)) (made_in_turn r (typing r.selection text)) r.items
   typing_cost t before after means fits h =
       let own = cost_of_lone r put t before after (allowed_is r put t means fits) (omega (arith, h)) in
-      subst (λ cs. after ≤ before + cost_of_made true (made_in_turn r cs) r.items) is_typing (omega (arith, own))
+      let in_place : after ≤ before + cost_of_made false (made_in_turn r (put ∷ [])) r.items = omega (arith, own) in
+      subst (λ b. after ≤ before + cost_of_made (not b) (made_in_turn r (typing r.selection text)) r.items) (sym (eq-eqb r.selection.anchor r.selection.focus caret))
+      (subst (λ cs. after ≤ before + cost_of_made false (made_in_turn r cs) r.items) is_typing in_place)
+
+-- ---- a text typed over a selection: two changes that are made on a copy
+
+module _ (k : ℕ) (old : Shared) (given text : List ℕ) (same : given ≡ text) where
+  abbrev s : Site
+  s = site_at old k
+
+  pub over_cost : (before after : ℕ) → s.replica.selection.anchor ≢ s.replica.selection.focus →
+      after ≤ before + cost_of_tree s.replica.items + cost_of_transactions (made_in_turn s.replica (typing s.replica.selection given)) s.replica.items →
+      after ≤ before + cost_of_made (not (is_collapsed s.replica.selection)) (made_in_turn s.replica (typing s.replica.selection text)) s.replica.items
+  over_cost before after range h =
+      let copied : after ≤ before + cost_of_made true (made_in_turn s.replica (typing s.replica.selection given)) s.replica.items = omega (arith, h) in
+      subst (λ b. after ≤ before + cost_of_made (not b) (made_in_turn s.replica (typing s.replica.selection text)) s.replica.items) (sym (ne_eqb s.replica.selection.anchor s.replica.selection.focus range))
+      (subst (λ t. after ≤ before + cost_of_made true (made_in_turn s.replica (typing s.replica.selection t)) s.replica.items) same copied)
+
+  pub over_stops : (why : BatchStop) → IsBatchRefused (batch_on s.replica (typing s.replica.selection given)) why → IsStopped (request.TypeText text) k old (typing_stop why)
+  over_stops (batch.Refused at why) e = λ page.
+      ap (λ t. typed_or_no (asker page old k) (batch_on s.replica (typing s.replica.selection t))) (sym same)
+      ∙ ap (typed_or_no (asker page old k)) e
+  over_stops batch.Memory e = tt
 
 -- a site that was edited has the transaction as its last entry
 pub edited_there : (t : Transaction) (k : ℕ) (old middle : Shared) → edit t (site_at old k) ≡ Ok (site_at middle k) →

@@ -1,7 +1,7 @@
 -- The outcome of a request in a world, and the invariant of the site that is asked.
-use Rattle.std.proofs.Common.{◌≡◌, ◌≤◌, ◌<◌, ℕ, Bool, true, false, List, [], ◌∷◌, ◌++◌, length, refl, ap, sym, ◌∙◌, Some}
+use Rattle.std.proofs.Common.{◌≡◌, ◌≤◌, ◌<◌, ℕ, Bool, true, false, List, [], ◌∷◌, ◌++◌, length, if◌then◌else◌, refl, ap, sym, ◌∙◌, Some, None, leb-true}
 use Rattle.std.proofs.lemmas.Option.{slice_get-get_or, slice_get_past}
-use Rattle.std.specs.Prelude.{nat_lt, Result, Ok, Err, slice_get}
+use Rattle.std.specs.Prelude.{nat_le, nat_lt, Result, Ok, Err, slice_get}
 use Rattle.ve_base.specs.Limits.{max_line}
 use Rattle.model_page.specs.PageItems.{Opened}
 use Rattle.model_script.specs.Output.{state_after}
@@ -10,7 +10,7 @@ use Rattle.model_world.specs.declared.command.Command.{Command}
 use Rattle.model_world.specs.declared.command.Command.TheVariants.{Ask, OpenPage}
 use Rattle.model_world.specs.declared.command.Request.{Request}
 use Rattle.model_world.specs.declared.refusal.Refusal.{Refusal}
-use Rattle.model_world.specs.declared.refusal.Refusal.TheVariants.{BadSite, LineTooLong}
+use Rattle.model_world.specs.declared.refusal.Refusal.TheVariants.{BadSite, LineTooLong, NotOpen}
 use Rattle.model_world.specs.declared.reply.Reply.{Reply}
 use Rattle.model_world.specs.declared.reply.Reply.TheVariants.{Length, No}
 use Rattle.model_world.specs.Answers.{Outcome, request_outcome}
@@ -20,7 +20,7 @@ use Rattle.model_world.specs.World.{World, Closed, Open, Answer as WorldAnswer, 
 use Rattle.model_world.specs.Cost.{cost_at, cost_of_command, cost_of_opening}
 use Rattle.ve_json.specs.declared.answer.Answer.{Answer}
 use Rattle.ve_json.specs.Answers.{reply_of}
-use Rattle.ve_session.specs.Asked.{asker, completed_request, cost_completed, kept_or_new, reply_and_world, IsAnswered, IsAsked}
+use Rattle.ve_session.specs.Asked.{asker, barred, completed_request, cost_completed, kept_or_new, reply_and_world, IsAnswered, IsAsked}
 use Rattle.ve_session.specs.Opened.{IsLed, MayOpen, OnPage, world_on}
 use Rattle.ve_session.proofs.CompletedLemmas.{costs_are_completed, outcomes_are}
 use Rattle.ve_sites.specs.Shared.{Shared, member_at, sites}
@@ -124,3 +124,16 @@ module _ (page : Opened) (old : Shared) (k : ℕ) (r : Request) (within : k < si
 pub bad_site : (p : OnPage) (k : ℕ) (r : Request) → length p.session.members ≤ k →
     reply_and_world (world_on p) (Ask r k) ≡ (No (BadSite (length p.session.members)), world_on p)
 bad_site p k r past = ap (λ m. reply_and_next (world_on p) (asked_of p.page p.session r k m)) (slice_get_past p.session.members k past)
+
+-- ---- no site is asked
+
+pub site_barred : (w : World) (k : ℕ) (r : Request) (why : Refusal) → Some why ≡ barred w k → reply_and_world w (Ask r k) ≡ (No why, w)
+site_barred Closed k r why e = let same : NotOpen ≡ why = cc in ap (λ x. (No x, Closed)) same
+site_barred (Open page session) k r why e = by (nat_le (length session.members) k) refl e
+  where
+    by : (b : Bool) → nat_le (length session.members) k ≡ b → Some why ≡ (if b then Some (BadSite (length session.members)) else None) →
+        reply_and_world (Open page session) (Ask r k) ≡ (No why, Open page session)
+    by true past e =
+        let same : BadSite (length session.members) ≡ why = cc in
+        bad_site (record { page = page; session = session }) k r (leb-true (length session.members) k past) ∙ ap (λ x. (No x, Open page session)) same
+    by false there e = cc

@@ -1,12 +1,15 @@
 -- Requests to a world or to one of its sites, and their outcome.
-use Rattle.std.specs.Prelude.{◌≡◌, ℕ, nat_lt, Bool, true, false, List, [], length, map, Ok, Err}
+use Rattle.std.specs.Prelude.{◌≡◌, ◌≢◌, ◌<◌, ℕ, nat_le, nat_lt, Bool, true, false, if◌then◌else◌, List, [], length, map, Option, Some, None, Ok, Err, IsOk}
 use Rattle.ve_base.specs.Limits.{max_line}
 use Rattle.model_page.specs.PageItems.{Opened}
 use Rattle.model_items.specs.declared.plain_item.PlainItem.{PlainItem}
-use Rattle.model_site.specs.Session.{Member, Session}
+use Rattle.model_site.specs.Session.{Member, Session, serve_next, take_next}
+use Rattle.model_site.specs.Site.{redo, send, undo}
 use Rattle.model_world.specs.declared.command.Request.{Request}
 use Rattle.model_world.specs.declared.command.Request.TheVariants as request
 use Rattle.model_world.specs.declared.command.Command.{Command}
+use Rattle.model_world.specs.declared.refusal.Refusal.{Refusal}
+use Rattle.model_world.specs.declared.refusal.Refusal.TheVariants.{BadSite, LineTooLong, NotOpen}
 use Rattle.model_world.specs.declared.reply.Reply.{Reply}
 use Rattle.model_change.specs.Transaction.{Transaction}
 use Rattle.model_world.specs.declared.reply.Reply.TheVariants.{No}
@@ -15,10 +18,11 @@ use Rattle.model_world.specs.Completed.{completed}
 use Rattle.model_world.specs.Cost.{cost_of_made, is_on_copy, made_by, made_in_turn, made_of}
 use Rattle.model_world.specs.Edits.{batch_on, change_on, checked_transaction}
 use Rattle.model_world.specs.Commands.{command}
-use Rattle.model_world.specs.World.{World, answer_of, reply_and_next}
+use Rattle.model_world.specs.World.{World, Closed, Open, answer_of, reply_and_next}
 use Rattle.ve_json.specs.declared.answer.Answer.{Answer}
 use Rattle.ve_changes.specs.declared.faults.ChangeStop.{ChangeStop}
 use Rattle.ve_changes.specs.declared.faults.ChangeStop.TheVariants as stop
+use Rattle.ve_changes.specs.Drafts.{MayWantDraft}
 use Rattle.ve_json.specs.Answers.{reply_of, AnswerCites}
 use Rattle.ve_sites.specs.Shared.{Shared, member_at, site_at}
 
@@ -27,6 +31,15 @@ use Rattle.ve_sites.specs.Shared.{Shared, member_at, site_at}
 -- the reply to a command, and the world after it
 abbrev pub reply_and_world : World → Command → Reply × World
 reply_and_world w c = reply_and_next w (answer_of w c)
+
+-- why a line isn't read: it is too long
+abbrev pub too_long : List ℕ → Option Refusal
+too_long line = if nat_lt max_line (length line) then Some (LineTooLong (length line)) else None
+
+-- why no site at k is asked: no page is open, or it has no such site
+abbrev pub barred : World → ℕ → Option Refusal
+barred Closed k = Some NotOpen
+barred (Open page session) k = if nat_le (length session.members) k then Some (BadSite (length session.members)) else None
 
 -- Some line asks this, within a line's length.
 pub record IsAsked (c : Command) : Type 0 where
@@ -76,7 +89,7 @@ made_completed w m r = made_by [] w m r
 
 -- and its cost
 abbrev pub cost_completed : Session → Member → Request → ℕ
-cost_completed w m r = let ts = made_completed w m r in cost_of_made (is_on_copy r m.feeds ts) ts m.site.replica.items
+cost_completed w m r = let ts = made_completed w m r in cost_of_made (is_on_copy r m ts) ts m.site.replica.items
 
 -- The answer and the new session are what the model answers to the request, which is
 -- completed, on whatever page it is asked.
@@ -97,3 +110,18 @@ pub record IsPerformed (t : Transaction) (k : ℕ) (old : Shared) (answer : Answ
 abbrev pub IsStopped : Request → ℕ → Shared → ChangeStop → Type 0
 IsStopped r k old (stop.Refused why) = (page : Opened) → outcome_completed (asker page old k) r ≡ Err (No why)
 IsStopped r k old stop.Memory = Unit {0}
+
+-- Memory may be wanting for the request to the site at k. Where the model refuses before anything
+-- takes memory, it isn't: something has to be there to take back, to make again, to send, to serve
+-- or to take, and the entry to be seen; for an edit, its draft may want it; and a selection takes
+-- none.
+abbrev pub MayWant : Request → Shared → ℕ → Type 0
+MayWant (request.Edit change) s k = MayWantDraft (site_at s k).replica.items change
+MayWant request.Undo s k = IsOk (undo (site_at s k))
+MayWant request.Redo s k = IsOk (redo (site_at s k))
+MayWant request.Send s k = IsOk (send (site_at s k))
+MayWant request.Serve s k = serve_next k (member_at s k) s.session ≢ None
+MayWant request.Take s k = take_next k (member_at s k) s.session ≢ None
+MayWant (request.Revoke entry live) s k = entry < (site_at s k).seen
+MayWant (request.Select anchor focus) s k = ⊥
+MayWant _ s k = Unit {0}

@@ -7,9 +7,13 @@ use Rattle.model_site.specs.declared.site_fault.RedoFault.TheVariants as redo
 use Rattle.model_site.specs.declared.site_fault.SendFault.{SendFault}
 use Rattle.model_site.specs.declared.site_fault.SendFault.TheVariants as send
 use Rattle.model_world.specs.declared.refusal.Refusal.TheVariants as refusal
+use Rattle.ve_changes.specs.declared.batch_stop.BatchStop.{BatchStop}
+use Rattle.ve_changes.specs.declared.batch_stop.BatchStop.TheVariants as batch
 use Rattle.ve_changes.specs.declared.faults.ChangeStop.{ChangeStop}
 use Rattle.ve_changes.specs.declared.faults.ChangeStop.TheVariants as stop
 use Rattle.ve_changes.specs.HtmlStops.{html_stop}
+use Rattle.ve_json.specs.declared.fault.CommandFault.{CommandFault}
+use Rattle.ve_json.specs.declared.fault.CommandFault.TheVariants as unread
 use Rattle.ve_peer_undo.specs.declared.fault.LiveFault.{LiveFault}
 use Rattle.ve_peer_undo.specs.declared.fault.LiveFault.TheVariants as live
 use Rattle.ve_read.specs.declared.fault.ReadFault.{ReadFault}
@@ -43,3 +47,13 @@ abbrev pub revoke_stop : (i : ℕ) → LiveFault → ChangeStop
 revoke_stop i (live.TakenBack by) = stop.Refused (refusal.TakenBack i by)
 revoke_stop i (live.Conflict later reversal) = stop.Refused (refusal.RevokeConflict later reversal)
 revoke_stop i live.Memory = stop.Memory
+
+-- of a text that is typed over a selection: its changes have no numbers
+abbrev pub typing_stop : BatchStop → ChangeStop
+typing_stop (batch.Refused at why) = stop.Refused why
+typing_stop batch.Memory = stop.Memory
+
+-- of a line that gives no command
+abbrev pub line_stop : CommandFault → ChangeStop
+line_stop (unread.Refused why) = stop.Refused why
+line_stop unread.Memory = stop.Memory

@@ -10,7 +10,7 @@ ghost use Rattle.ve_changes.specs.Stops.{IsRefused};
 ghost use Rattle.ve_editor.specs.Edited.{drafted, IsDraftOf};
 ghost use Rattle.ve_editor.specs.Page.{IsPage};
 ghost use Rattle.ve_offsets.specs.Docs.{page_items};
-ghost use Rattle.ve_session.specs.Asked.{cost_completed, IsAnswered, IsPerformed, IsStopped};
+ghost use Rattle.ve_session.specs.Asked.{cost_completed, IsAnswered, IsPerformed, IsStopped, MayWant};
 ghost use Rattle.ve_session.specs.Turning.{MayTurn};
 ghost use Rattle.ve_sites.specs.Shared.{member_at, site_at, sites};
 
@@ -92,6 +92,8 @@ pub fn edit<L: Ledger>(
     ensures answer { IfOk result (λ answer.
         IsAnswered (request.Edit change.now) k session.old answer session.new) }
     ensures refused { IfErr result (IsStopped (request.Edit change.now) k session.old) }
+    ensures memory { IfErr result (λ stop.
+        stop ≡ ChangeStop.Memory → MayWant (request.Edit change.now) session.old k) }
     ensures kept { OnErr result (session.new ≡ session.old) }
     ensures counted { steps.old ≤ steps.new }
     ensures steps { IfErr result (λ stop. stop ≢ ChangeStop.Memory)

@@ -1,10 +1,12 @@
 // The faults of the crates below, as stops of a request.
-ghost use Rattle.std.specs.Prelude.{◌≡◌};
-ghost use Rattle.ve_session.specs.Stopped.{page_stop, redo_stop, revoke_stop, send_stop, undo_stop};
+ghost use Rattle.std.specs.Prelude.{◌≡◌, IfOk, OnErr};
+ghost use Rattle.ve_session.specs.Stopped.{line_stop, page_stop, redo_stop, revoke_stop, send_stop, typing_stop, undo_stop};
 
 use model_site::{RedoFault, SendFault, UndoFault};
 use model_world::Refusal;
-use ve_changes::ChangeStop;
+use ve_base::Memory;
+use ve_changes::{BatchStop, ChangeStop};
+use ve_json::CommandFault;
 use ve_peer_undo::LiveFault;
 use ve_read::ReadFault;
 
@@ -66,5 +68,36 @@ pub fn of_revoke(entry: usize, fault: LiveFault) -> ChangeStop
             ChangeStop::Refused(Refusal::RevokeConflict { later, reversal })
         }
         LiveFault::Memory => ChangeStop::Memory,
+    }
+}
+
+/// Why a text isn't typed over a selection.
+pub fn of_typing(stop: BatchStop) -> ChangeStop
+    ensures { result ≡ typing_stop stop }
+{
+    match stop {
+        BatchStop::Refused { refusal, .. } => ChangeStop::Refused(refusal),
+        BatchStop::Memory => ChangeStop::Memory,
+    }
+}
+
+/// Why a line gives no command.
+pub fn of_line(fault: CommandFault) -> ChangeStop
+    ensures { result ≡ line_stop fault }
+{
+    match fault {
+        CommandFault::Refused(refusal) => ChangeStop::Refused(refusal),
+        CommandFault::Memory => ChangeStop::Memory,
+    }
+}
+
+/// The refusal that a stop is; else memory is wanting.
+pub fn refusal_of(stop: ChangeStop) -> Result<Refusal, Memory>
+    ensures refused { IfOk result (λ refusal. stop ≡ ChangeStop.Refused refusal) }
+    ensures memory { OnErr result (stop ≡ ChangeStop.Memory) }
+{
+    match stop {
+        ChangeStop::Refused(refusal) => Ok(refusal),
+        ChangeStop::Memory => Err(Memory),
     }
 }

@@ -1,7 +1,7 @@
 // Undo and redo of a site.
 ghost use Rattle.std.specs.Prelude.{◌≡◌, ◌<◌, ◌≤◌, ◌+◌, IfErr, IfOk, OnErr};
 ghost use Rattle.model_world.specs.declared.command.Request.TheVariants as request;
-ghost use Rattle.ve_session.specs.Asked.{cost_completed, IsAnswered, IsStopped};
+ghost use Rattle.ve_session.specs.Asked.{cost_completed, IsAnswered, IsStopped, MayWant};
 ghost use Rattle.ve_session.specs.Turning.{MayTurn};
 ghost use Rattle.ve_sites.specs.Shared.{member_at, site_at, sites};
 
@@ -25,6 +25,8 @@ pub fn undo<L: Ledger>(
     ensures answer { IfOk result (λ answer.
         IsAnswered request.Undo k session.old answer session.new) }
     ensures refused { IfErr result (IsStopped request.Undo k session.old) }
+    ensures memory { IfErr result (λ stop.
+        stop ≡ ChangeStop.Memory → MayWant request.Undo session.old k) }
     ensures kept { OnErr result (session.new ≡ session.old) }
     ensures counted { steps.old ≤ steps.new }
     ensures steps { steps.new
@@ -48,6 +50,8 @@ pub fn redo<L: Ledger>(
     ensures answer { IfOk result (λ answer.
         IsAnswered request.Redo k session.old answer session.new) }
     ensures refused { IfErr result (IsStopped request.Redo k session.old) }
+    ensures memory { IfErr result (λ stop.
+        stop ≡ ChangeStop.Memory → MayWant request.Redo session.old k) }
     ensures kept { OnErr result (session.new ≡ session.old) }
     ensures counted { steps.old ≤ steps.new }
     ensures steps { steps.new
@@ -74,6 +78,8 @@ pub fn revoke<L: Ledger>(
     ensures answer { IfOk result (λ answer.
         IsAnswered (request.Revoke entry live) k session.old answer session.new) }
     ensures refused { IfErr result (IsStopped (request.Revoke entry live) k session.old) }
+    ensures memory { IfErr result (λ stop.
+        stop ≡ ChangeStop.Memory → MayWant (request.Revoke entry live) session.old k) }
     ensures kept { OnErr result (session.new ≡ session.old) }
     ensures counted { steps.old ≤ steps.new }
     ensures steps { steps.new

@@ -23,9 +23,12 @@
 //! - `Program`: a run of a new world, in the words of the definitions ([`run_program`]).
 //!
 //! The page as it was first read stands beside the sites: text, rows, list with values, table of
-//! references. So the items of a page just opened for one site stand in two lists.
+//! references. The sites' lists share its blocks until they are written.
 //!
-//! Of a line for which memory is wanting the bound says nothing.
+//! Of a line for which memory is wanting the bound says nothing. `turn` wants memory only where
+//! `MayWant` of `Asked` says that it may; of batches, of typed text, and of what is erased or moved
+//! that says nothing. Above `turn` the text of the reply may want it, and what is refused there is
+//! decided in functions that can't fail.
 #![tactic(auto)]
 
 mod batches;

@@ -3,7 +3,7 @@ ghost use Rattle.std.specs.Prelude.{◌≡◌, ◌<◌, ◌≤◌, ◌+◌, IfEr
 ghost use Rattle.model_world.specs.Answers.{ranges, taken_reply};
 ghost use Rattle.model_world.specs.declared.command.Request.TheVariants as request;
 ghost use Rattle.ve_json.specs.Answers.{reply_of};
-ghost use Rattle.ve_session.specs.Asked.{cost_completed, IsAnswered, IsStopped};
+ghost use Rattle.ve_session.specs.Asked.{cost_completed, IsAnswered, IsStopped, MayWant};
 ghost use Rattle.ve_session.specs.Turning.{MayTurn};
 ghost use Rattle.ve_sites.specs.Shared.{member_at, site_at, sites};
 
@@ -43,6 +43,8 @@ pub fn send(session: &mut Sites, k: usize) -> Result<Answer<'static>, ChangeStop
     ensures answer { IfOk result (λ answer.
         IsAnswered request.Send k session.old answer session.new) }
     ensures refused { IfErr result (IsStopped request.Send k session.old) }
+    ensures memory { IfErr result (λ stop.
+        stop ≡ ChangeStop.Memory → MayWant request.Send session.old k) }
     ensures kept { OnErr result (session.new ≡ session.old) }
 {
     match session.send(k) {
@@ -58,6 +60,8 @@ pub fn serve(session: &mut Sites, k: usize) -> Result<Answer<'static>, ChangeSto
     ensures answer { IfOk result (λ answer.
         IsAnswered request.Serve k session.old answer session.new) }
     ensures refused { IfErr result (IsStopped request.Serve k session.old) }
+    ensures memory { IfErr result (λ stop.
+        stop ≡ ChangeStop.Memory → MayWant request.Serve session.old k) }
     ensures kept { OnErr result (session.new ≡ session.old) }
 {
     let Some(served) = session.serve(k)? else {
@@ -81,6 +85,8 @@ pub fn take<L: Ledger>(
     ensures answer { IfOk result (λ answer.
         IsAnswered request.Take k session.old answer session.new) }
     ensures refused { IfErr result (IsStopped request.Take k session.old) }
+    ensures memory { IfErr result (λ stop.
+        stop ≡ ChangeStop.Memory → MayWant request.Take session.old k) }
     ensures kept { OnErr result (session.new ≡ session.old) }
     ensures counted { steps.old ≤ steps.new }
     ensures steps { steps.new

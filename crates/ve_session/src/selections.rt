@@ -3,7 +3,7 @@ ghost use Rattle.std.specs.Prelude.{◌≡◌, ◌<◌, IfErr, IfOk, OnErr};
 ghost use Rattle.model_world.specs.declared.command.Request.TheVariants as request;
 ghost use Rattle.model_site.specs.Site.{with_selection};
 ghost use Rattle.model_site_law.specs.SelectionLaws.{StandsIn};
-ghost use Rattle.ve_session.specs.Asked.{IsAnswered, IsStopped};
+ghost use Rattle.ve_session.specs.Asked.{IsAnswered, IsStopped, MayWant};
 ghost use Rattle.ve_session.specs.Turning.{MayTurn};
 ghost use Rattle.ve_sites.specs.Shared.{site_at, sites, with_site_at};
 
@@ -41,6 +41,8 @@ pub fn select(
     ensures answer { IfOk result (λ answer.
         IsAnswered (request.Select anchor focus) k session.old answer session.new) }
     ensures refused { IfErr result (IsStopped (request.Select anchor focus) k session.old) }
+    ensures memory { IfErr result (λ stop.
+        stop ≡ ChangeStop.Memory → MayWant (request.Select anchor focus) session.old k) }
     ensures kept { OnErr result (session.new ≡ session.old) }
 {
     carets_are_asked();

@@ -1,7 +1,7 @@
 // A request that may change a site or the queues.
 ghost use Rattle.std.specs.Prelude.{◌≡◌, ◌≢◌, ◌<◌, ◌≤◌, ◌+◌, false, IfErr, IfOk, OnErr, OnOk};
 ghost use Rattle.ve_json.specs.Answers.{AnswerCites};
-ghost use Rattle.ve_session.specs.Asked.{cost_completed, is_shown, IsAnswered, IsStopped};
+ghost use Rattle.ve_session.specs.Asked.{cost_completed, is_shown, IsAnswered, IsStopped, MayWant};
 ghost use Rattle.ve_session.specs.Turning.{MayTurn};
 ghost use Rattle.ve_sites.specs.Shared.{member_at, site_at, sites};
 
@@ -33,6 +33,8 @@ fn done<L: Ledger>(
     ensures answer { IfOk result (λ answer.
         IsAnswered request.now k session.old answer session.new) }
     ensures refused { IfErr result (IsStopped request.now k session.old) }
+    ensures memory { IfErr result (λ stop.
+        stop ≡ ChangeStop.Memory → MayWant request.now session.old k) }
     ensures kept { OnErr result (session.new ≡ session.old) }
     ensures counted { steps.old ≤ steps.new }
     ensures steps { IfErr result (λ stop. stop ≢ ChangeStop.Memory)
@@ -58,7 +60,8 @@ fn done<L: Ledger>(
     }
 }
 
-/// The answer of a site to a completed request that may change it, or its refusal. A refusal changes nothing.
+/// The answer of a site to a completed request that may change it, or its refusal. A refusal changes
+/// nothing, and memory is wanting only where `MayWant` says that it may be.
 pub fn turn<L: Ledger>(
     alloc: Global,
     session: &mut Sites,
@@ -72,6 +75,7 @@ pub fn turn<L: Ledger>(
     ensures answer { IfOk result (λ answer.
         IsAnswered request.now k session.old answer session.new) }
     ensures cites { IfOk result AnswerCites }
+    ensures memory { OnErr result (MayWant request.now session.old k) }
     ensures kept { OnErr result (session.new ≡ session.old) }
     ensures counted { steps.old ≤ steps.new }
     ensures steps { OnOk result (

@@ -14,13 +14,14 @@ ghost use Rattle.ve_session.specs.Turning.{MayTurn};
 ghost use Rattle.ve_sites.specs.Shared.{member_at, site_at, sites};
 
 use crate::edits::{doc_at, len_at};
+use crate::faults::of_typing;
 use model_edit::Selection;
 use model_world::TextMarks;
 use model_world_law::layers_fit;
 use std::alloc::Global;
 use std::sync::ledger::Ledger;
 use ve_base::{Steps, Text, TryCopy};
-use ve_changes::{BatchStop, ChangeStop, EditCommand, Typing, after_inserted, change_draft};
+use ve_changes::{ChangeStop, EditCommand, Typing, after_inserted, change_draft};
 use ve_json::Answer;
 use ve_offsets::Doc;
 use ve_sites::Sites;
@@ -95,6 +96,8 @@ fn type_over<L: Ledger>(
 ) -> Result<Answer<'static>, ChangeStop>
     requires site { k < sites session.old }
     requires may { MayTurn (request.TypeText text.now) (site_at session.old k).replica }
+    requires range { (site_at session.old k).replica.selection.anchor
+        ≢ (site_at session.old k).replica.selection.focus }
     ensures answer { IfOk result (λ answer.
         IsAnswered (request.TypeText text.now) k session.old answer session.new) }
     ensures refused { IfErr result (IsStopped (request.TypeText text.now) k session.old) }
@@ -108,8 +111,7 @@ fn type_over<L: Ledger>(
 {
     let caret = match session.attempt(k, &Typing::new(alloc, text), steps) {
         Ok(caret) => caret,
-        Err(BatchStop::Refused { refusal, .. }) => return Err(ChangeStop::Refused(refusal)),
-        Err(BatchStop::Memory) => return Err(ChangeStop::Memory),
+        Err(stop) => return Err(of_typing(stop)),
     };
     session.select(
         k,

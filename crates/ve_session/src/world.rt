@@ -5,19 +5,19 @@ ghost use Rattle.model_world.specs.declared.reply.Reply.TheVariants as reply;
 ghost use Rattle.model_world.specs.World.{reply as model_reply};
 ghost use Rattle.model_world.specs.Cost.{cost, cost_of_command};
 ghost use Rattle.ve_run.specs.Run.{reply_line};
-ghost use Rattle.ve_session.specs.Asked.{reply_and_world, IsAsked};
+ghost use Rattle.ve_session.specs.Asked.{barred, reply_and_world, too_long, IsAsked};
 ghost use Rattle.ve_session.specs.Opened.{replica_in, HasUtf8Page, IsLed};
 ghost use Rattle.ve_session.specs.States.{after, closed_state, spent_state};
 ghost use Rattle.ve_editor.specs.Page.{replica_of};
 
+use crate::faults::{of_line, refusal_of};
 use crate::page::OpenPage;
 use std::alloc::Global;
 use std::marker::Model;
 use std::sync::ledger::Ledger;
 use ve_base::{Bytes, MAX_LINE, Memory, Steps, Text};
-use ve_changes::ChangeStop;
 use ve_editor::Editor;
-use ve_json::{Answer, Command, CommandFault, Refusal, Request, command, reply_text};
+use ve_json::{Answer, Command, Refusal, Request, command, reply_text};
 use ve_run::Machine;
 
 /// The page that is open, if one is. After it ran out of memory a world is spent: every later step
@@ -36,6 +36,17 @@ impl Model for World {
     ghost Value = { State };
 
     ghost view = { λ w. record { world = world_of w.page; is_spent = w.is_spent } };
+}
+
+/// Why a line isn't read: it is too long.
+fn too_long(line: &[u8]) -> Option<Refusal>
+    ensures { result ≡ too_long line.now }
+{
+    if line.len() > MAX_LINE {
+        Some(Refusal::LineTooLong { len: line.len() })
+    } else {
+        None
+    }
 }
 
 /// Appends a refusal as a reply.
@@ -118,8 +129,27 @@ impl World {
                 self.page = Some(page);
                 tell_length(self.alloc, len, out)
             }
-            Err(ChangeStop::Refused(refusal)) => refuse(self.alloc, refusal, out),
-            Err(ChangeStop::Memory) => Err(Memory),
+            Err(stop) => {
+                let refusal = refusal_of(stop)?;
+                refuse(self.alloc, refusal, out)
+            }
+        }
+    }
+
+    /// Why no site of this number is asked: no page is open, or it has no such site.
+    fn barred(&self, site: usize) -> Option<Refusal>
+        ensures { result ≡ barred self.now.world site }
+    {
+        match &self.page {
+            None => Some(Refusal::NotOpen),
+            Some(page) => {
+                let sites = page.sites();
+                if site >= sites {
+                    Some(Refusal::BadSite { sites })
+                } else {
+                    None
+                }
+            }
         }
     }
 
@@ -146,13 +176,12 @@ impl World {
             steps.new
             ≤ steps.old + cost_of_command self.old.world (Ok (Ask request site))) }
     {
-        let Some(page) = &mut self.page else {
-            return refuse(self.alloc, Refusal::NotOpen, out);
-        };
-        let sites = page.sites();
-        if site >= sites {
-            return refuse(self.alloc, Refusal::BadSite { sites }, out);
+        if let Some(refusal) = self.barred(site) {
+            return refuse(self.alloc, refusal, out);
         }
+        let Some(page) = &mut self.page else {
+            unreachable!()
+        };
         page.answer(self.alloc, request, site, out, steps)
     }
 
@@ -199,13 +228,15 @@ impl World {
         if self.is_spent {
             return Err(Memory);
         }
-        if line.len() > MAX_LINE {
-            return refuse(self.alloc, Refusal::LineTooLong { len: line.len() }, out);
+        if let Some(refusal) = too_long(line) {
+            return refuse(self.alloc, refusal, out);
         }
         match command(self.alloc, line) {
             Ok(command) => self.obey(command, out, steps),
-            Err(CommandFault::Refused(refusal)) => refuse(self.alloc, refusal, out),
-            Err(CommandFault::Memory) => Err(Memory),
+            Err(fault) => {
+                let refusal = refusal_of(of_line(fault))?;
+                refuse(self.alloc, refusal, out)
+            }
         }
     }
 

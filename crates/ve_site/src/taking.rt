@@ -35,18 +35,19 @@ pub struct Taking {
 }
 
 impl Taking {
-    /// A copy of a site, with nothing undone.
-    pub fn of<L: Ledger>(site: &Site, steps: &mut Steps<L>) -> Result<Taking, Memory>
+    /// A copy of a site, with nothing undone. Both have the blocks of the list in common.
+    pub fn of<L: Ledger>(site: &mut Site, steps: &mut Steps<L>) -> Result<Taking, Memory>
+        ensures kept { site.new ≡ site.old }
         ensures site { IfOk result (λ taking.
-            taking_site taking ≡ with_none_undone site.now.site) }
+            taking_site taking ≡ with_none_undone site.old.site) }
         ensures is { IfOk result IsTaking }
         ensures counted { steps.old ≤ steps.new }
-        ensures steps { steps.new ≤ steps.old + cost_of_tree site.now.site.replica.items }
+        ensures steps { steps.new ≤ steps.old + cost_of_tree site.old.site.replica.items }
     {
         let sent = EntryList::copy_of(site.alloc, site.sent.as_slice())?;
         let unsent = EntryList::copy_of(site.alloc, site.history.done())?;
         let untold = site.untold.copy(site.alloc)?;
-        let editor = site.editor.copy(steps)?;
+        let editor = site.editor.share(steps)?;
         Ok(Taking {
             editor,
             untold,

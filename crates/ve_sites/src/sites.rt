@@ -49,47 +49,49 @@ impl Model for Sites {
     ghost invariant = { λ s. IsShared s.values s.first.items s.server s.members.items };
 }
 
-/// A site that begins with a copy of the list and of its values.
+/// A site that begins with the blocks of the list, and a copy of its values.
 fn begin<L: Ledger>(
     alloc: Global,
     number: u32,
-    list: &Linear,
+    list: &mut Linear,
     values: &Store,
     steps: &mut Steps<L>,
 ) -> Result<Member, Memory>
-    requires sound { Sound (plain_list values.now list.now.items) }
-    requires cites { All (CitesWell values.now) list.now.items }
+    requires sound { Sound (plain_list values.now list.old.items) }
+    requires cites { All (CitesWell values.now) list.old.items }
+    ensures kept { list.new ≡ list.old }
     ensures ok { IfOk result (λ member.
         member ≡ record {
           number = number;
-          site = starting (page_of values.now list.now.items (between 0 0));
+          site = starting (page_of values.now list.old.items (between 0 0));
           submissions = [];
         }) }
     ensures counted { steps.old ≤ steps.new }
-    ensures steps { steps.new ≤ steps.old + cost_of_tree (plain_list values.now list.now.items) }
+    ensures steps { steps.new ≤ steps.old + cost_of_tree (plain_list values.now list.old.items) }
 {
-    let list = list.copy(alloc)?;
+    let list = list.share(alloc)?;
     let values = values.copy(alloc)?;
     let editor = Editor::new(alloc, list, values, steps)?;
     Ok(Member::new(alloc, Site::new(alloc, number, editor)?))
 }
 
-/// So many sites, each of which begins with a copy of the list and of its values.
+/// So many sites, each of which begins with the blocks of the list, and a copy of its values.
 fn all_begun<L: Ledger>(
     alloc: Global,
-    list: &Linear,
+    list: &mut Linear,
     values: &Store,
     sites: u32,
     steps: &mut Steps<L>,
 ) -> Result<Vec<Member>, Memory>
-    requires sound { Sound (plain_list values.now list.now.items) }
-    requires cites { All (CitesWell values.now) list.now.items }
+    requires sound { Sound (plain_list values.now list.old.items) }
+    requires cites { All (CitesWell values.now) list.old.items }
+    ensures kept { list.new ≡ list.old }
     ensures ok { IfOk result (λ members.
         members.items
-        ≡ first_senders 0 sites (starting (page_of values.now list.now.items (between 0 0)))) }
+        ≡ first_senders 0 sites (starting (page_of values.now list.old.items (between 0 0)))) }
     ensures counted { steps.old ≤ steps.new }
     ensures steps { steps.new
-        ≤ steps.old + sites * cost_of_tree (plain_list values.now list.now.items) }
+        ≤ steps.old + sites * cost_of_tree (plain_list values.now list.old.items) }
 {
     let mut members = Vec::new(alloc);
     for number in 0..sites {
@@ -134,7 +136,8 @@ impl Sites {
         ensures steps { steps.new ≤ steps.old + sites * cost_of_tree (plain_list values list.items) }
     {
         let server = Server::new(alloc, sites as usize)?;
-        let members = all_begun(alloc, &list, &values, sites, steps)?;
+        let mut list = list;
+        let members = all_begun(alloc, &mut list, &values, sites, steps)?;
         Ok(Sites {
             first: list,
             values,

@@ -11,11 +11,11 @@ use crate::hashed::Hashed;
 use indexmap::IndexSet;
 use std::alloc::Global;
 use std::marker::Model;
-use ve_base::{MAX_VALUES, Memory, TryCopy, Value, ValueId};
+use ve_base::{Hashing, MAX_VALUES, Memory, TryCopy, Value, ValueId};
 
 /// A list of distinct values, which items cite by their positions. A value is found by its hash.
 pub struct Store {
-    values: IndexSet<Hashed>,
+    values: IndexSet<Hashed, Hashing>,
 }
 
 impl Drop for Store {
@@ -40,7 +40,7 @@ impl Store {
         ensures { result ≡ [] }
     {
         Store {
-            values: IndexSet::new(alloc),
+            values: IndexSet::with_hasher(alloc, Hashing::new()),
         }
     }
 

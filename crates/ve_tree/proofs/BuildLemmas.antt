@@ -4,6 +4,8 @@ use Rattle.std.proofs.lemmas.List.{length-map}
 use Rattle.std.proofs.Math.Seq.{drop-length}
 use Rattle.ve_kinds.specs.declared.kind.Kind.TheVariants.{Root}
 use Rattle.model_items.specs.declared.item.Item.{Item}
+use Rattle.model_items.specs.declared.plain_item.PlainItem.{PlainItem}
+use Rattle.model_items.specs.Cost.{cost_of_tree}
 use Rattle.model_items.specs.Plain.{plain}
 use Rattle.model_items.specs.Law.{Lawful}
 use Rattle.model_items.specs.Tree.{Reading, tree_of, node_count}
@@ -63,8 +65,15 @@ built_is_tree s0 s1 s2 s3 root items len to from empty len_is to_is made write r
 
 -- two steps for the root, six for each other node
 pub steps_built : (before s1 s2 after : ℕ) (items : List Item) (to : ℕ) → Lawful (unvalued items) → s1 ≡ before + 1 → s2 ≡ s1 + 1 →
-    after + 6 * count_from items to ≤ s2 + 6 * count_from items 0 → after ≤ before + 8 * (node_count (tree_of (unvalued items)) + 2)
+    after + 6 * count_from items to ≤ s2 + 6 * count_from items 0 → after ≤ before + (6 * node_count (tree_of (unvalued items)) + 2)
 steps_built before s1 s2 after items to lawful e1 e2 h = by_counts (count_from items to) (count_from items 0) (node_count (tree_of (unvalued items))) h (count-whole items lawful)
   where
-    by_counts : (e z n : ℕ) → after + 6 * e ≤ s2 + 6 * z → z ≡ n → after ≤ before + 8 * (n + 2)
+    by_counts : (e z n : ℕ) → after + 6 * e ≤ s2 + 6 * z → z ≡ n → after ≤ before + (6 * n + 2)
     by_counts e z n h k = omega (arith, h, k, e1, e2)
+
+-- within the bound that is stated of making any list's tree
+pub within_cost : (before after : ℕ) (items : List PlainItem) → after ≤ before + (6 * node_count (tree_of items) + 2) → after ≤ before + cost_of_tree items
+within_cost before after items h = by_count (node_count (tree_of items)) h
+  where
+    by_count : (n : ℕ) → after ≤ before + (6 * n + 2) → after ≤ before + 8 * (n + 2)
+    by_count n h = omega (arith, h)

@@ -26,3 +26,4 @@ pub mod FrameLemmas
 pub mod CutLemmas
 pub mod CloseLemmas
 mod FollowLemmas
+pub mod LiveLemmas

@@ -2,8 +2,9 @@
 //! closing, one for each longest run of characters, and the root over all. After the document tree
 //! of VisualEditor's `ve.dm`.
 //!
-//! Proved: linked nodes are the list's tree. Building takes at most 8 writes for each node and 16
-//! more. Links decide the tree, and a tree shows the shapes of items alone.
+//! Proved: linked nodes are the list's tree. Building takes at most 6 steps for each node and 2
+//! more, and a copy one for each node. Links decide the tree, and a tree shows the shapes of items
+//! alone.
 //!
 //! It knows a node's kind, length and links, and where some nodes, the landmarks, begin. It doesn't
 //! know the items: it is the tree of every list whose items have the same shapes
@@ -27,7 +28,7 @@
 //!
 //! "The tree of a list" includes that the list is lawful, that node numbers are distinct, and that
 //! no node stands besides. The tree is built from the list's end, so each node becomes its parent's
-//! first child. The bound on building counts the nodes without the root.
+//! first child. Of building, the 6 are for each node but the root; a copy counts the root as well.
 //!
 //! Landmarks are cut between the first change and the last, also where these lie far apart, and one
 //! walk fills the gap again.

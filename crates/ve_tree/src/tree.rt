@@ -2,6 +2,7 @@
 ghost use Rattle.std.specs.Prelude.{◌≡◌, ◌+◌, ◌*◌, ◌≤◌, List, Some, IfOk, option_map, length};
 ghost use Rattle.model_items.specs.Law.{Lawful};
 ghost use Rattle.model_items.specs.declared.plain_item.PlainItem.{PlainItem};
+ghost use Rattle.model_items.specs.Tree.{tree_of, node_count, number_of_nodes};
 ghost use Rattle.ve_arena.specs.Arena.{IsLive};
 ghost use Rattle.ve_tree.specs.Links.{number_of};
 ghost use Rattle.ve_tree.specs.IsTree.{IsTree, unvalued};
@@ -46,8 +47,8 @@ impl Drop for Tree {
 
 impl Tree {
     /// The tree of a lawful list: a node for each opening and its closing, one for each longest run
-    /// of characters, and the root over all. It takes at most eight steps for each node, and
-    /// sixteen more.
+    /// of characters, and the root over all. It takes at most six steps for each node, and two
+    /// more for the root.
     pub fn build<L: Ledger>(
         alloc: Global,
         list: &Linear,
@@ -57,6 +58,8 @@ impl Tree {
         ensures tree { IfOk result (λ tree. IsTreeOf tree (unvalued list.now.items)) }
         ensures counted { steps.old ≤ steps.new }
         ensures steps { steps.new ≤ steps.old + cost_of_tree (unvalued list.now.items) }
+        ensures six_a_node { steps.new
+            ≤ steps.old + (6 * node_count (tree_of (unvalued list.now.items)) + 2) }
     {
         let mut arena = Arena::new(alloc);
         let root = arena.make(NodeWhat::Node(Kind::Root), steps)?;
@@ -71,9 +74,9 @@ impl Tree {
         })
     }
 
-    /// A copy, with each node under its number, and with landmarks of its own. Nothing is linked
-    /// anew, so it takes no step.
-    pub fn copy(&self, alloc: Global) -> Result<Tree, Memory>
+    /// A copy, with each node under its number, and with landmarks of its own. Each node of the
+    /// copy is a step, the root counted, also where there is no memory for it.
+    pub fn copy<L: Ledger>(&self, alloc: Global, steps: &mut Steps<L>) -> Result<Tree, Memory>
         requires { IsSomeTree self.now.arena self.now.root }
         ensures arena { IfOk result (λ copy. copy.arena ≡ self.now.arena) }
         ensures root { IfOk result (λ copy. copy.root ≡ self.now.root) }
@@ -81,8 +84,12 @@ impl Tree {
             (items : List PlainItem)
             → IsTree self.now.arena self.now.root items
             → IsTreeOf copy items) }
+        ensures counted { steps.old ≤ steps.new }
+        ensures step_a_node { (items : List PlainItem)
+            → IsTree self.now.arena self.now.root items
+            → steps.new ≡ steps.old + number_of_nodes items }
     {
-        let arena = self.arena.copy()?;
+        let arena = self.arena.copy(steps)?;
         let landmarks = landmarks_of(alloc, &arena, self.root);
         Ok(Tree {
             arena,

@@ -69,3 +69,19 @@ fn blocks_have_room(rt: HostRuntime) -> Result<(), Fail> {
     }
     Ok(())
 }
+
+/// How many letters two lists have that share their blocks, after each has been written.
+fn written_apart(alloc: Global) -> Result<(usize, usize), Memory> {
+    let mut list = Linear::new(alloc);
+    put(alloc, &mut list, 0, 640)?;
+    let mut other = list.share(alloc)?;
+    put(alloc, &mut other, 10, 5)?;
+    list.splice(0, list.len().min(100), &[])?;
+    Ok((list.len(), other.len()))
+}
+
+#[test]
+fn shared_blocks_are_written_apart(rt: HostRuntime) -> Result<(), Fail> {
+    assert!(rt; written_apart(rt.alloc())? == (540, 645));
+    Ok(())
+}

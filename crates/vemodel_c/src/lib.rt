@@ -1,10 +1,13 @@
 //! A world for a program that isn't Rattle's: it keeps a handle, and calls four functions on it by
-//! C's rules.
+//! C's rules. A fifth tells the version.
 //!
 //! A handle holds a session: a world of ve_session, and its reply to the last line
 //! (specs/Sessions.antt). The four functions say of it what the world says of itself. The reply and
 //! the world after a line are the model's, and want of memory is the one free answer.
 //! `handles_cross` is a law: a handle may be handed on from thread to thread.
+//!
+//! No clause says that a world opens: want of memory is free there, too. Nor does one say that
+//! closing frees what was held, since no clause counts memory. tools/check-c shows both.
 //!
 //! No clause knows the caller. It has to pass a handle that these functions made, or one of zeros;
 //! never a copy of an open one; and slices that are there. clients/c/vemodel.h tells it so.
@@ -112,7 +115,7 @@ fn copied(from: &[u8], out: &mut [u8]) -> usize
 }
 
 /// Opens a closed handle with a world without a page. False: the handle was open, or there was no
-/// memory; it is as it was.
+/// memory; it is as it was. It costs one piece of memory, of always the same size.
 #[unsafe(no_mangle)]
 pub extern "C" fn vemodel_open(alloc: Global, handle: &mut Handle) -> bool
     ensures opened { result ≡ true → (handle.old.is_open ≡ false) × (handle.new.is_open ≡ true)
@@ -131,7 +134,8 @@ pub extern "C" fn vemodel_open(alloc: Global, handle: &mut Handle) -> bool
     }
 }
 
-/// Answers a line. The reply's text is kept until the next line.
+/// Answers a line. The reply's text is kept until the next line. It costs what the world's `step`
+/// does: no more steps than `Cost` of model_world says. The world isn't copied for it.
 #[unsafe(no_mangle)]
 pub extern "C" fn vemodel_step(alloc: Global, handle: &mut Handle, line: &[u8]) -> Stepped
     ensures done { result.status ≡ 0 → (handle.old.is_open ≡ true) × (handle.new.is_open ≡ true)
@@ -158,7 +162,7 @@ pub extern "C" fn vemodel_step(alloc: Global, handle: &mut Handle, line: &[u8]) 
 }
 
 /// Copies what fits of the last reply's text, and tells how many bytes that is. A closed handle has
-/// no bytes to copy.
+/// no bytes to copy. It costs that copy, and no memory.
 #[unsafe(no_mangle)]
 pub extern "C" fn vemodel_reply(alloc: Global, handle: &mut Handle, out: &mut [u8]) -> usize
     ensures count { result ≡ min (length (told handle.old)) (length out.old) }
@@ -176,7 +180,8 @@ pub extern "C" fn vemodel_reply(alloc: Global, handle: &mut Handle, out: &mut [u
     count
 }
 
-/// Closes a handle, and frees what it held. A closed one stays as it is.
+/// Closes a handle, and frees what it held. A closed one stays as it is. It costs time for all that
+/// was held.
 #[unsafe(no_mangle)]
 pub extern "C" fn vemodel_close(alloc: Global, handle: &mut Handle)
     ensures closed { handle.new.is_open ≡ false }
@@ -185,4 +190,12 @@ pub extern "C" fn vemodel_close(alloc: Global, handle: &mut Handle)
     if handle.is_open() {
         drop(take(alloc, handle));
     }
+}
+
+/// The version, as 65,536 times its first number, 256 times its second, and its third.
+#[unsafe(no_mangle)]
+pub extern "C" fn vemodel_version() -> u32
+    ensures { result ≡ 256 }
+{
+    256
 }

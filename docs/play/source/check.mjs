@@ -43,6 +43,8 @@ async function checkLink() {
   assert.equal(await window.value("document.querySelector('iframe').getAttribute('sandbox')"), "");
   assert.equal(await window.value("globalThis.ran"), undefined);
   assert.deepEqual(await window.value("performance.getEntriesByType('resource').map((it) => it.name)"), []);
+  const cut = await opened(`${ADDRESS}#%7`);
+  assert.equal(await cut.value(SHOWN), "no bad_json\n");
 }
 
 async function draw() {

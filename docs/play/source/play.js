@@ -72,9 +72,18 @@ function open(script) {
 }
 
 function fromLink() {
-  const script = decodeURIComponent(location.hash.slice(1));
+  const script = scriptOf(location.hash.slice(1));
   find("picks").value = scripts.findIndex((it) => it.script === script);
   open(script);
+}
+
+// A link that was cut is shown as it is.
+function scriptOf(link) {
+  try {
+    return decodeURIComponent(link);
+  } catch {
+    return link;
+  }
 }
 
 for (const group of new Set(scripts.map((it) => it.group))) {

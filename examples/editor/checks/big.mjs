@@ -1,7 +1,7 @@
 // A page of 1 MB: what is seen is drawn, and the rest as it comes near.
 import assert from "node:assert/strict";
 import { until } from "../browser.mjs";
-import { clickAfter, html, idle, keys, selectAll } from "../person.mjs";
+import { clickAfter, html, keys, selectAll } from "../person.mjs";
 
 const WORDS = "A page of this many words is read, shown and typed in, here and there, as one of its <b>kind</b> would be. ";
 export const page = `<p>Here</p>\n${`<p>${WORDS.repeat(5)}</p>\n`.repeat(1800)}<p>There</p>`;
@@ -32,7 +32,6 @@ export async function check(browser, url) {
   // to the end, where the last ones are drawn; typing there, and back
   await keys(ada, "ctrl+End");
   await ada.type("!");
-  await idle(ada);
   assert.ok((await html(ada)).endsWith("There!</p>"));
   await keys(ada, "ctrl+Home");
   await clickAfter(ada, "Here");

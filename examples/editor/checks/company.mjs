@@ -1,12 +1,14 @@
 // Two windows on one page, one after the other and at once.
 import assert from "node:assert/strict";
 import { until } from "../browser.mjs";
-import { choose, clickAfter, clickOn, dragOver, filesKept, html, keys, meet, notice, paste, press, shared, state } from "../person.mjs";
+import { choose, clickAfter, clickOn, dragOver, filesKept, html, keys, meet, notice, paste, press, shared, state,
+  unsent, untold } from "../person.mjs";
+import { run } from "./steps.mjs";
 
 const holds = (person, text) => until(`the page holds ${text}`, async () => (await html(person)).includes(text));
 const count = (page, letter) => page.split(letter).length - 1;
 
-// Each step is made by one of the two, and replaces a text of the page by another.
+// Each step is made by one of the two or by both, and replaces some texts of the page by others.
 export const steps = [
   ["typing, Backspace, Enter after a heading", async (ada) => {
     await clickAfter(ada, "A page for two");
@@ -19,11 +21,11 @@ export const steps = [
     await ada.type(" meet");
     await keys(ada, "ctrl+b");
     await ada.type(".");
-  }, "A page for two</h1>", "A page for two, 😀</h1><p>Two <b>worlds meet</b>.</p>"],
+  }, ["A page for two</h1>", "A page for two, 😀</h1><p>Two <b>worlds meet</b>.</p>"]],
   ["a mark by a button", async (_, ben) => (await dragOver(ben, "what is typed"), await press(ben, "italic")),
-    "what is typed in one", "<i>what is typed</i> in one"],
+    ["what is typed in one", "<i>what is typed</i> in one"]],
   ["a heading by the menu", async (_, ben) => (await clickAfter(ben, "Offsets count"), await choose(ben, "Kind of paragraph", "h1")),
-    "<p>Offsets count characters, so 😀 and é are one each.</p>", "<h1>Offsets count characters, so 😀 and é are one each.</h1>"],
+    ["<p>Offsets count characters, so 😀 and é are one each.</p>", "<h1>Offsets count characters, so 😀 and é are one each.</h1>"]],
   ["an item, one deeper, and out", async (ada) => {
     await clickAfter(ada, "leaves the rest.");
     await keys(ada, "Enter");
@@ -31,13 +33,40 @@ export const steps = [
     await keys(ada, "Tab", "Enter");
     await ada.type("flat");
     await keys(ada, "shift+Tab");
-  }, "leaves the rest.</li></ul>", "leaves the rest.<ul><li><p>deep</p></li></ul></li><li><p>flat</p></li></ul>"],
+  }, ["leaves the rest.</li></ul>", "leaves the rest.<ul><li><p>deep</p></li></ul></li><li><p>flat</p></li></ul>"]],
   ["a paste, and an input method", async (_, ben) => {
     await clickAfter(ben, "are one each.");
     await paste(ben, "<p>One</p><p>two</p>");
     await ben.type("?");
     await ben.compose(["z", "ž"]);
-  }, "are one each.</h1>", "are one each.</h1><p>One</p><p>two?ž</p>"],
+  }, ["are one each.</h1>", "are one each.</h1><p>One</p><p>two?ž</p>"]],
+  ["a selection of which the browser tells later than another types", async (ada, ben) => {
+    await clickAfter(ben, "in two windows");
+    await untold(ada, async () => {
+      await dragOver(ada, "this page");
+      await ben.type("!");
+      await holds(ada, "in two windows!");
+      await keys(ada, "ctrl+b");
+    });
+  }, ["Open this page in two windows", "Open <b>this page</b> in two windows!"]],
+  ["text that is dragged as another types before it", async (ada, ben) => {
+    await clickAfter(ben, "for two");
+    await run(ada, [["drag", "Each ", "them", () => ben.type("!").then(() => holds(ada, "for two!"))]]);
+  }, ["for two, 😀", "for two!, 😀"], ["Each of them", "of themEach "]],
+  ["a block that is dragged as another parts it", async (ada, ben) => {
+    await clickAfter(ben, "On");
+    await run(ada, [["block", "One", "two?ž", () => ben.key("Enter").then(() => holds(ada, "<p>On</p>"))]]);
+    assert.match(await notice(ada), /^Somebody changed this block/);
+    await clickAfter(ada, "two?ž");
+    await ada.type("!");
+  }, ["<p>One</p><p>two?ž</p>", "<p>On</p><p>e</p><p>two?ž!</p>"]],
+  ["an input method, while an undo waits and another types", async (ada, ben) => {
+    await unsent(ada, async () => {
+      await run(ada, [["click", "an item"], ["type", "x"], ["keys", "ctrl+z"], ["click", "one list"], ["compose", ["に", "日本"]]]);
+      await run(ben, [["click", "Enter"], ["type", "!"]]);
+      await holds(ada, "Enter!");
+    });
+  }, ["<td>Enter<", "<td>Enter!<"], ["an item one list", "an item one list日本"]],
 ];
 
 /** Both type at once, where it isn't known which site comes first; nothing of it is lost. */

@@ -82,6 +82,12 @@ export async function together(url) {
   await Promise.all(windows.map(({ close }) => close()));
 }
 
+/** Who comes to a page that the core doesn't open is told what the core says. */
+export async function refused(url) {
+  const answer = await fetch(new URL(`/events${new URL(url).search}`, url));
+  assert.match(await answer.text(), /^event: ended\n.*no html unclosed/);
+}
+
 // Lines of a window that are no window's to write.
 const lines = (site) => [
   ["another page", { do: "open", page: "x" }, 400],

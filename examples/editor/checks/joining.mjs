@@ -8,6 +8,12 @@ export const page = "<h1>On cats</h1><p>They sit.</p>";
 const isIn = (person, wanted) => until(`the state is ${wanted}`, async () => (await state(person)).startsWith(wanted));
 const ALONE = "No server", AWAY = "The server isn't there", SHARED = "";
 
+// Loads a window again. Until it has looked for a server its state is the one that it has where a server is.
+async function reload(person, wanted) {
+  await person.reload();
+  await isIn(person, wanted);
+}
+
 /** A window that never met a server keeps what is typed, and joins the first server that has the page. */
 export async function alone(browser, files, serve) {
   const ada = await browser.edit(files.url);
@@ -16,11 +22,11 @@ export async function alone(browser, files, serve) {
   await ada.type(", alone");
   await keys(ada, "Enter");
   await ada.type("More");
-  await ada.reload();
+  await reload(ada, ALONE);
   assert.equal(await html(ada), "<h1>On cats, alone</h1><p>More</p><p>They sit.</p>");
   await filesKept(ada);
   await files.close();
-  await ada.reload();
+  await reload(ada, ALONE);
   await clickAfter(ada, "More");
   await ada.type(" without files");
   assert.equal(await html(ada), "<h1>On cats, alone</h1><p>More without files</p><p>They sit.</p>");
@@ -40,7 +46,7 @@ export async function apart({ ada, ben, server }, serve) {
   await ada.type(" A1");
   await keys(ada, "ctrl+z", "ctrl+y");
   await ada.type("A2");
-  await ada.reload();
+  await reload(ada, AWAY);
   await clickAfter(ada, "A2");
   await ada.type("A3");
   await clickAfter(ben, "They");

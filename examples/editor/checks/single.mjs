@@ -115,6 +115,7 @@ const OF_GOOGLE = "<h2>Head</h2><p><b>bold</b> plain <i>it</i></p>" +
 
 const BROWSER = `<meta charset="utf-8"><p style="color:red" onclick="hacked = 1">One<br>&amp;&nbsp;<a href="javascript:hacked = 1">two</a></p>
 <script>hacked = 1</script><div id="x">thr<font color="red">ee</font></div>`;
+const LINKED = '<a href="https://example.org/" rel="nofollow" title="there">l</a>';
 const FORM = "<form><img name=childNodes><input name=nodeType><img name=firstChild>shown</form>";
 
 const pasting = [
@@ -123,9 +124,15 @@ const pasting = [
   ["a browser, with scripts and styles", "<p>x</p>", [["click", "x"], ["paste", BROWSER]],
     "<p>x</p><p>One<br>&amp;&nbsp;two</p><p>three</p>"],
   ["a form whose members are hidden by names", "<p>x</p>", [["click", "x"], ["paste", FORM]], "<p>xshown</p>"],
+  ["another program's link with its rel", "<p>x</p>", [["click", "x"], ["paste", LINKED]], `<p>x${LINKED}</p>`],
+  ["a row, a table and a list that hold nothing", "<p>x</p>",
+    [["click", "x"], ["paste", "<table><tr><td>q<tr><p>o</table><table></table><ul></ul><p>y"]],
+    "<p>x</p><p>o</p><table><tbody><tr><td><p>q</p></td></tr></tbody></table><p>y</p>"],
   ["20,000 elements in one another", "<p>x</p>", [["click", "x"], ["paste", `${"<div>".repeat(20000)}deep`]], "<p>xdeep</p>"],
   ["a copied bold link with its rel, for this page and for others", `<p>a <b>b${LINK}</b> c</p><p>end</p>`,
     [["over", "cat"], ["copy", `<b>${LINK}</b>`], ["click", "end"], ["back"]], `<p>a <b>b${LINK}</b> c</p><p>end<b>${LINK}</b></p>`],
+  ["a part of a text that is dragged elsewhere", "<p>one two three</p><p>last</p>", [["drag", "two", "last"]],
+    "<p>one  three</p><p>lasttwo</p>"],
   ["text that is dragged elsewhere", "<p>one <b>two</b> three</p><p>last</p>", [["drag", "two", "last"]],
     "<p>one  three</p><p>last<b>two</b></p>"],
 ];

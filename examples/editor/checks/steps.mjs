@@ -1,7 +1,7 @@
 // What a person does, as tables say it: a word and what it needs.
 import assert from "node:assert/strict";
 import { until } from "../browser.mjs";
-import { choose, clickAfter, clickOn, copied, cut, dragOver, idle, keys, middleOf, paste, pasteBack, placeOf, press,
+import { choose, clickAfter, clickOn, copied, cut, dragOver, keys, middleOf, paste, pasteBack, placeOf, press,
   tripleClick } from "../person.mjs";
 
 const WORDS = {
@@ -29,21 +29,19 @@ const WORDS = {
     await keys(person, "Enter");
   },
 
-  // A selected text to behind another one.
-  async drag(person, text, to) {
+  // A selected text to behind another one. `midway` is what happens meanwhile.
+  async drag(person, text, to, midway) {
     await dragOver(person, text);
     const [[x, y], [end]] = await placeOf(person, text);
-    await person.drag([(x + end) / 2, y], (await placeOf(person, to))[1], 8);
-    await idle(person);
+    await person.drag([(x + end) / 2, y], (await placeOf(person, to))[1], 8, midway);
   },
 
   // The block of a text to below that of another one, by its handle.
-  async block(person, text, to) {
+  async block(person, text, to, midway) {
     const [[x, y]] = await placeOf(person, text);
     await person.move([x + 2, y]);
     const [, [toX, toY]] = await placeOf(person, to);
-    await person.drag(await middleOf(person, "#grip"), [toX, toY + 6], 8);
-    await idle(person);
+    await person.drag(await middleOf(person, "#grip"), [toX, toY + 6], 8, midway);
   },
 };
 

@@ -53,16 +53,18 @@ function brought(data, page) {
 
 const grownBy = (edits) => edits.reduce((sum, { gone, came }) => sum + came.reduce((size, item) => size + sizeOf(item), 0) - gone, 0);
 
+const takenOut = ({ root }, from, to) => ({ lines: [replaced(root, cut(root, from, to)), select(from)], what: "a cut" });
+
 // What was dragged goes from where it was, and comes to where it is dropped.
-function moved(root, from, at) {
-  const [lo, hi] = ends(from);
+function dropped({ root }, at, ...selection) {
+  const [lo, hi] = ends(selection);
   if (at >= lo && at <= hi) return null;
-  const put = placement(root, at, taken(root, from));
+  const put = placement(root, at, parse(itemsOf(taken(root, selection)))); // anew, as a part of a node has another size
   if (typeof put === "string") return put;
   const gone = cut(root, lo, hi);
   if (gone.some((edit) => edit.at < at && at < edit.at + edit.gone)) return "This can't be dropped so near to where it was";
   const caret = put.caret + grownBy(gone.filter((edit) => edit.at < at));
-  return { lines: [replaced(root, [...put.edits, ...gone]), select(caret)] };
+  return { lines: [replaced(root, [...put.edits, ...gone]), select(caret)], what: "what was dragged" };
 }
 
 /**
@@ -83,7 +85,7 @@ export function listenToClipboard(host, editor) {
       if (lo === hi) return;
       event.preventDefault();
       copy(event.clipboardData);
-      if (what === "cut") editor.act(({ root }) => ({ lines: [replaced(root, cut(root, lo, hi)), select(lo)], what: "a cut" }));
+      if (what === "cut") editor.act(takenOut, lo, hi);
     });
   }
   host.addEventListener("paste", (event) => {
@@ -91,20 +93,19 @@ export function listenToClipboard(host, editor) {
     paste(event.clipboardData);
   });
 
-  let dragged = null; // the selection that is dragged, where it is of this page
+  let isOurs = false; // whether what is dragged is the selection here
   host.addEventListener("dragstart", (event) => {
-    dragged = editor.selection;
+    isOurs = true;
     copy(event.dataTransfer);
     event.dataTransfer.effectAllowed = "copyMove";
   });
-  host.addEventListener("dragend", () => (dragged = null));
+  host.addEventListener("dragend", () => (isOurs = false));
   host.addEventListener("dragover", (event) => event.preventDefault());
   host.addEventListener("drop", (event) => {
     event.preventDefault();
     const at = editor.places.offsetAt(event.clientX, event.clientY);
-    const from = dragged;
     if (at === null) return;
-    if (from && !event.ctrlKey) return editor.act(({ root }) => named(moved(root, from, at), "what was dragged"));
+    if (isOurs && !event.ctrlKey) return editor.act(dropped, at, ...editor.selection);
     editor.place([at, at]);
     paste(event.dataTransfer);
   });

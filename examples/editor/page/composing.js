@@ -1,7 +1,6 @@
 // Input methods, as phones and those of East Asia have. They write into the document by themselves, over words that stood there too. When
 // one is done what its branch shows is compared with the tree: the difference is taken out of the document, and typed as any other text.
 import { ends, select } from "./edits.js";
-import { typed } from "./text.js";
 import { commonOf, innerStart, innermost, isContent, isText } from "./tree.js";
 import { scalars } from "./scalars.js";
 
@@ -46,11 +45,12 @@ export function listenToInputMethods(host, editor) {
     const [lo, hi] = ends(editor.selection);
     editor.view.redraw(branch ?? commonOf(innermost(editor.root, lo), innermost(editor.root, hi)));
     editor.places.select(...editor.selection);
-    editor.act(() => (change ? written(change) : data ? typed(editor.root, editor.selection, data) : null));
+    if (change) editor.act((_, from, to) => written(change, from, to), change.from, change.to);
+    else if (data) editor.type(data);
     editor.release();
   });
 
-  // What the branch shows that isn't in the tree, and where the caret stands in it.
+  // What the branch shows that isn't in the tree, and how far from its beginning the caret stands.
   function readBranch() {
     const dom = editor.view.domOf(branch);
     const { focusNode, focusOffset } = document.getSelection();
@@ -60,12 +60,12 @@ export function listenToInputMethods(host, editor) {
     const caret = scalars(range.toString());
     const { from, to, text } = difference(signsOf(branch), shownIn(dom, editor.places), caret);
     const start = innerStart(branch);
-    return { from: start + from, to: start + to, text, caret: start + caret };
+    return { from: start + from, to: start + to, text, caret: caret - from };
   }
 }
 
-function written({ from, to, text, caret }) {
+function written({ text, caret }, from, to) {
   if (!text && from === to) return null;
   const change = text ? [select(from, to), { do: "type", text }] : [{ do: "remove", from, to }];
-  return { lines: [...change, select(caret)], kind: "type", what: `typing “${text}”`, text };
+  return { lines: [...change, select(from + caret)], kind: "type", what: `typing “${text}”`, text };
 }

@@ -20,7 +20,7 @@ export class Editor {
   session;
   page; // which page it is: what was copied of it can be put back there alone
   #heard;
-  #waiting = []; // intents that can't be done yet
+  #waiting = []; // intents that can't be done yet, each with its places
   #isHeld = false; // an input method writes
   #moved = false; // the world wasn't told of the selection yet
 
@@ -40,18 +40,21 @@ export class Editor {
     this.place(Array(2).fill(caretPlace(this.root, 0, true)));
   }
 
-  /** An intent gives an edit, a text to tell the user, or nothing. */
-  act(intent) {
+  /** An intent gives an edit, a text to tell the user, or nothing. It gets the editor, and places that move along while it waits. */
+  act(intent, ...places) {
     this.look();
-    this.#waiting.push(intent);
+    this.#waiting.push({ intent, places });
     this.#goOn();
   }
 
   #goOn() {
     while (this.#waiting.length && !this.#isHeld) {
-      const edit = this.#waiting[0](this);
-      if (edit === LATER) return;
-      this.#waiting.shift();
+      const first = this.#waiting.shift(); // one that fails doesn't stand in the way of the next
+      const edit = first.intent(this, ...first.places);
+      if (edit === LATER) {
+        this.#waiting.unshift(first);
+        return;
+      }
       if (typeof edit === "string") this.#heard.notice(edit);
       else if (edit) this.#run(edit);
     }
@@ -71,6 +74,7 @@ export class Editor {
   /** Takes what the log has brought. */
   catchUp() {
     if (this.#isHeld) return;
+    this.look();
     this.#run({ lines: [] });
     this.#goOn();
   }
@@ -97,7 +101,7 @@ export class Editor {
     return accepted(reply) ? JSON.parse(reply.split(" ")[3]) : null;
   }
 
-  /** Reads where the browser's selection is. Its event comes some time after the user moved it, and the next key may come before. */
+  /** Reads where the browser's selection is, which it tells some time after a user moved it: a key or another's change may come before. */
   look() {
     const selection = this.#isHeld ? null : this.places.selection();
     if (!selection || String(selection) === String(this.selection)) return;
@@ -140,6 +144,7 @@ export class Editor {
     const next = renewed(this.root, turn);
     if (next) this.view.update(next.parent, next.first, next.last, next.fresh);
     this.selection = this.#moved ? this.selection.map((at) => moved(at, turn.patches)) : turn.caret;
+    for (const one of this.#waiting) one.places = one.places.map((at) => moved(at, turn.patches));
     if (edit.reveal && next && !this.#moved) this.#moveTo(next.change.at + next.change.came);
     if (edit.kind) this.marks = new Map();
     if (next || edit.lines.length) this.places.select(...this.selection);

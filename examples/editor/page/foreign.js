@@ -64,9 +64,10 @@ const isBlock = ({ kind }) => BLOCKS.has(kind);
 // A block round what stands in it, as far as it may hold that.
 function settled(kind, attrs, kids, list, pre) {
   if (CONTENT.has(kind)) return kids.some(isBlock) ? flow(kids) : [{ kind, attrs, kids: pre ? kids : trimmed(kids), list }];
-  if (kind === "ul" || kind === "ol") return [{ kind, attrs, kids: itemsIn(kids) }];
   if (mayHold(kind, "p")) return [{ kind, attrs, kids: flow(kids) }];
-  return [{ kind, attrs, kids: kids.filter((kid) => mayHold(kind, kid.kind)) }];
+  // a list without items, a row without cells and a table without rows show nothing
+  const held = kind === "ul" || kind === "ol" ? itemsIn(kids) : kids.filter((kid) => mayHold(kind, kid.kind));
+  return held.length ? [{ kind, attrs, kids: held }] : [];
 }
 
 // What stands in a list and is no item: a list belongs to the item before it, and all else is an item of its own.

@@ -1,5 +1,6 @@
 // The handle beside the block under the mouse: it is dragged with its block, and a line shows where that would come to stand.
 import { blockAt, fitsBeside, movedBeside } from "./moving.js";
+import { isIn } from "./tree.js";
 
 /**
  * @param {HTMLElement} main
@@ -59,6 +60,9 @@ export function listenToGrip(main, host, editor) {
     event.preventDefault();
     event.stopPropagation();
     const [moved, { node, isBehind }] = [block, target];
-    editor.act(({ root, selection }) => movedBeside(root, moved, node, isBehind, selection));
+    editor.act(({ root, selection }) => {
+      if (!isIn(root, moved) || !isIn(root, node)) return "Somebody changed this block meanwhile, so it stays where it is";
+      return movedBeside(root, moved, node, isBehind, selection);
+    });
   }, true);
 }

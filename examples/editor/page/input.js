@@ -39,7 +39,10 @@ export function listen(host, editor, shortcuts) {
     inputs[event.inputType]?.(event);
   });
 
-  document.addEventListener("selectionchange", () => editor.look());
+  // What the user does next may come before the browser tells of the selection.
+  for (const name of ["selectionchange", "mousedown", "keydown", "compositionstart", "copy", "cut", "dragstart"]) {
+    document.addEventListener(name, () => editor.look(), true);
+  }
 
   // What isn't drawn yet the browser doesn't know, so the ends of the page are ours.
   function toEnd({ key, shiftKey }) {

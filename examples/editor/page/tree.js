@@ -112,6 +112,12 @@ export function startOf(node) {
   throw new Error("a node that isn't in the tree");
 }
 
+/**
+ * Whether the node is in the tree still, and no other came in its place.
+ * @type {(root: TreeNode, node: TreeNode) => boolean}
+ */
+export const isIn = (root, node) => node === root || (node.parent?.kids.includes(node) && isIn(root, node.parent)) === true;
+
 /** @type {(node: TreeNode) => number} */
 export const endOf = (node) => startOf(node) + node.size;
 /** @type {(node: TreeNode) => number} */

@@ -13,7 +13,7 @@ import { World, compile } from "../../../clients/web/world.js";
 import { branches, erased, parted, typed } from "./edits.js";
 import { Writer, single } from "./writer.js";
 
-const PATIENCE = 20_000; // milliseconds
+const PATIENCE = 60_000; // milliseconds, on a busy machine
 const WRITERS = 10;
 const WORDS = 12; // that each of them types
 const [program, module] = process.argv.slice(2);
@@ -73,7 +73,7 @@ class Person {
 
   constructor(url, makeWorld, letter) {
     this.letter = letter;
-    const heard = { changed() {}, people() {}, notice: (text) => text && this.notices.push(text) };
+    const heard = { changing() {}, changed() {}, people() {}, notice: (text) => text && this.notices.push(text) };
     this.writer = new Writer(url, `a key that is of nobody but ${letter}`, makeWorld, heard);
   }
 

@@ -19,6 +19,7 @@ const name = query.has("name") ? `?name=${encodeURIComponent(query.get("name"))}
 const view = new View(host);
 const socket = `${location.origin.replace("http", "ws")}/pages/${encodeURIComponent(page)}/edit${name}`;
 const writer = new Writer(socket, key, () => new World(module), {
+  changing: look,
   changed() {
     view.draw(writer.items);
     place();
@@ -67,8 +68,9 @@ function place() {
   getSelection().setBaseAndExtent(...anchor, ...focus);
 }
 
-// Reads where the user put it.
+// Reads where the user put it. The browser tells some time later: a key, or another's change, may come before.
 function look() {
+  if (document.activeElement !== host) return;
   const { anchorNode, anchorOffset, focusNode, focusOffset } = getSelection();
   if (!anchorNode || !host.contains(anchorNode)) return;
   const selection = [view.offset(anchorNode, anchorOffset), view.offset(focusNode, focusOffset)];

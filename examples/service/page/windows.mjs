@@ -1,5 +1,6 @@
 // node --experimental-websocket windows.mjs CHROMIUM ADDRESS: two windows on one page of the service at this address, with real keys.
 import { Browser, until } from "../../editor/browser.mjs";
+import { untold } from "../../editor/person.mjs";
 
 const [chromium, address] = process.argv.slice(2);
 
@@ -7,11 +8,14 @@ function sure(holds, what) {
   if (!holds) throw new Error(what);
 }
 
+const put = (window, at) => window.value(`getSelection().setPosition(document.querySelector("#page > div").firstChild.firstChild, ${at})`);
 const lines = (window) => window.value('[...document.querySelectorAll("#page > div")].map((line) => line.textContent).join("\\n")');
+
+const shown = (window, text) => until(`a window shows ${text}`, async () => (await lines(window)) === text);
 
 // What both windows and the service show.
 async function shows(windows, text, page) {
-  for (const window of windows) await until(`a window shows ${text}`, async () => (await lines(window)) === text);
+  for (const window of windows) await shown(window, text);
   const served = () => fetch(`http://${address}/pages/windows`).then((answer) => answer.text());
   await until(`the service shows ${page}`, async () => (await served()) === page);
 }
@@ -25,12 +29,12 @@ async function opened(browser, name) {
 
 async function edited(browser) {
   const [ada, ben] = [await opened(browser, "Ada"), await opened(browser, "Ben")];
-  await ada.value("getSelection().setPosition(document.querySelector('#page > div').firstChild.firstChild, 3)");
+  await put(ada, 3);
   await ada.type("d!");
   await ada.key("Enter");
   await ada.type("ef");
   await shows([ada, ben], "abcd!\nef", "<p>abcd!</p><p>ef</p>");
-  await ben.value("getSelection().setPosition(document.querySelector('#page > div').firstChild.firstChild, 1)");
+  await put(ben, 1);
   await ben.key("Backspace");
   await ben.type("X");
   await shows([ada, ben], "Xbcd!\nef", "<p>Xbcd!</p><p>ef</p>");
@@ -44,6 +48,13 @@ async function edited(browser) {
     const [caret, line] = ["#carets .focus", "#page > div:last-child"].map((what) => document.querySelector(what).getBoundingClientRect());
     return caret.top >= line.top - 2 && caret.bottom <= line.bottom + 2;
   })()`));
+  await untold(ada, async () => {
+    await put(ada, 4);
+    await ben.type("Y");
+    await shown(ada, "XYbcd!\nef");
+    await ada.type("Z");
+  });
+  await shows([ada, ben], "XYbcdZ!\nef", "<p>XYbcdZ!</p><p>ef</p>");
   sure((await ada.value('document.querySelector("#status").textContent')) === "", "a window complains");
 }
 

@@ -21,11 +21,11 @@ export class Writer {
   people = new Map(); // who else is here: { name, selection }
 
   /**
-   * `heard` is told where the items or people changed, and of what went wrong.
+   * `heard` is told before the items change, where they or people did, and of what went wrong.
    * @param {string} url of the page's socket
    * @param {string} key that nobody can guess
    * @param {() => { line(text: string): string }} makeWorld
-   * @param {{ changed(): void, people(): void, notice(text: string): void }} heard
+   * @param {{ changing(): void, changed(): void, people(): void, notice(text: string): void }} heard
    */
   constructor(url, key, makeWorld, heard) {
     this.#key = key;
@@ -173,6 +173,7 @@ export class Writer {
     const told = replica.changes(); // from here on it tells what comes after what is drawn now
     const { patches, came } = isWhole ? { patches: [], came: [] } : told;
     if (!isWhole && patches.length === 0) return;
+    this.#heard.changing();
     this.#drawn = drawn;
     if (isWhole) this.items = single(JSON.parse(replica.ask({ do: "data" }).slice(3)));
     for (const [at, removed, inserted] of patches) {

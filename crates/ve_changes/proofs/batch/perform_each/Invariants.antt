@@ -5,7 +5,7 @@ use Rattle.ve_editor.specs.Page.{replica_of}
 
 abbrev pub invariant-loop-at : goal.invariant-loop-at
 invariant-loop-at g l =
-    SoFar (replica_of l.fn.trial.page) l.changes (drop l.at l.changes) l.at (replica_of l.trial.page) l.entry
+    SoFar l.fn.trial.page l.changes (drop l.at l.changes) l.at l.trial.page l.entry
     × (l.fn.steps ≤ l.steps)
     × (l.steps + cost_of_changes (replica_of l.trial.page) (drop l.at l.changes) ≤ l.fn.steps + cost_of_changes (replica_of l.fn.trial.page) l.changes)
     × (l.trial.first ≡ l.fn.trial.first)

@@ -40,6 +40,8 @@ returns-in-Ok-clause-ok g c =
       page = c.in-Ok.ensures.page;
       entry = c.in-Ok.ensures.entry;
       cites = c.in-Ok.ensures.cites;
+      numbers = c.in-Ok.ensures.numbers;
+      tree = c.in-Ok.ensures.tree;
     }
 
 pub returns-in-Ok-clause-steps : goal.returns-in-Ok-clause-steps

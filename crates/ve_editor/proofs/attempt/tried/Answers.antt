@@ -5,9 +5,9 @@ use Rattle.ve_editor.proofs.attempt.tried.Goals as goal
 
 pub returns-in-Ok-run-clause-made : goal.returns-in-Ok-run-clause-made
 returns-in-Ok-run-clause-made g c =
-    subst (λ (p : LinkedPage). IsMade (λ ts. g.A.Attempt.makes c.args.attempt.now (replica_of p) ts c.in-Ok-run.made.1) (replica_of p) (replica_of c.keep.result) c.in-Ok-run.made.0)
+    subst (λ (p : LinkedPage). IsMade (λ ts. g.A.Attempt.makes c.args.attempt.now (replica_of p) ts c.in-Ok-run.made.1) p c.keep.result c.in-Ok-run.made.0)
     (ap (λ (t : Tried). t.page) c.in-Ok.ensures.ok)
-    (subst (λ (p : LinkedPage). IsMade (λ ts. g.A.Attempt.makes c.args.attempt.now (replica_of c.in-Ok.trial.page) ts c.in-Ok-run.made.1) (replica_of c.in-Ok.trial.page) (replica_of p) c.in-Ok-run.made.0)
+    (subst (λ (p : LinkedPage). IsMade (λ ts. g.A.Attempt.makes c.args.attempt.now (replica_of c.in-Ok.trial.page) ts c.in-Ok-run.made.1) c.in-Ok.trial.page p c.in-Ok-run.made.0)
     (sym c.keep.ensures) c.in-Ok-run.ensures.made)
 
 pub returns-in-Err-run-clause-kept : goal.returns-in-Err-run-clause-kept

@@ -1,11 +1,12 @@
 use Rattle.std.proofs.Common.{sym, ap, ◌∙◌, subst}
 use Rattle.model_items.specs.Plain.{plain_list}
 use Rattle.model_change.specs.Touch.{touch}
+use Rattle.model_edit.specs.Translate.{between}
 use Rattle.ve_repair.specs.Change.{LawfulAfter}
 use Rattle.ve_repair.specs.Kept.{KeepsNumbers}
 use Rattle.ve_tx.specs.Operation.{by_value}
 use Rattle.ve_editor.specs.Edited.{drafted}
-use Rattle.ve_editor.proofs.AllowedLemmas.{may_perform, over_new}
+use Rattle.ve_editor.proofs.AllowedLemmas.{allowed_cause, may_perform, over_new}
 use Rattle.ve_editor.proofs.RelinkLemmas.{within_touch}
 use Rattle.ve_editor.proofs.perform.ready.Goals as goal
 
@@ -38,3 +39,9 @@ returns-in-Err-clause-steps g c =
     let new = c.checked.new.store in
     within_touch new d.tx c.checked.new.list.items (drafted c.args.store.now d) (plain_list c.args.store.now items) _ _
     (ap (λ l. touch (by_value new d.tx) (plain_list new l)) c.in_ok-change.ensures.items ∙ over_new d c.args.store.now new items c.in_ok-change.change c.in_ok-change.ensures.ok touch) c.with_entry.ensures.steps
+
+pub returns-in-Ok-clause-steps_if_allowed : goal.returns-in-Ok-clause-steps_if_allowed
+returns-in-Ok-clause-steps_if_allowed g c = λ refused. absurd (refused (allowed_cause c.args.draft.now c.args.store.now c.checked.new.store c.args.list.now.items c.in_ok-change.change (between 0 0) c.in_ok-change.ensures.ok))
+
+pub returns-in-Err-clause-steps_if_allowed : goal.returns-in-Err-clause-steps_if_allowed
+returns-in-Err-clause-steps_if_allowed g c = λ refused. absurd (refused (allowed_cause c.args.draft.now c.args.store.now c.checked.new.store c.args.list.now.items c.in_ok-change.change (between 0 0) c.in_ok-change.ensures.ok))

@@ -19,3 +19,10 @@ returns-in-Err-clause-steps g c =
     let known : c.args.entry < (site_at old c.args.k).seen = omega (arith, same, c.if-entry-seen.false) in
     let counted = c.revoke.ensures.steps in
     let within = revoke_within old.session (member_at old c.args.k) c.args.entry c.args.live (lt-ltb _ _ known) in omega (arith, counted, within)
+
+pub returns-then-entry-seen-clause-memory : goal.returns-then-entry-seen-clause-memory
+returns-then-entry-seen-clause-memory g c = λ e. absurd (cc)
+
+pub returns-in-Err-clause-memory : goal.returns-in-Err-clause-memory
+returns-in-Err-clause-memory g c = λ e.
+    let same = c.seen-seen.ensures ∙ ap (λ (s : Site). s.seen) c.site.ensures in omega (arith, same, c.if-entry-seen.false)

@@ -1,5 +1,6 @@
-use Rattle.std.proofs.Common.{arith}
+use Rattle.std.proofs.Common.{arith, sym, ◌∙◌}
 use Rattle.ve_session.proofs.CostLemmas.{undo_within}
+use Rattle.ve_session.proofs.StopLemmas.{undo_memory}
 use Rattle.ve_sites.specs.Shared.{member_at}
 use Rattle.ve_session.proofs.history.undo.Goals as goal
 
@@ -14,3 +15,6 @@ returns-in-Err-clause-steps g c =
     let old = c.args.session.now in
     let counted = c.undo.ensures.steps in
     let within = undo_within old.session (member_at old c.args.k) in omega (arith, counted, within)
+
+pub returns-in-Err-clause-memory : goal.returns-in-Err-clause-memory
+returns-in-Err-clause-memory g c = λ e. undo_memory _ c.in-Err.fault c.in-Err.ensures.memory (sym c.of_undo.ensures ∙ e)

@@ -10,7 +10,8 @@ use Rattle.ve_sites.proofs.sites.all_begun.Given as goal
 abbrev pub invariant-loop-number : goal.invariant-loop-number
 invariant-loop-number g l = record {
   within : l.number ≤ l.sites;
-  members : l.members.items ≡ first_senders 0 l.number (starting (page_of l.values l.list.items (between 0 0)));
+  kept : l.list ≡ l.fn.list;
+  members : l.members.items ≡ first_senders 0 l.number (starting (page_of l.values l.fn.list.items (between 0 0)));
   counted : l.fn.steps ≤ l.steps;
-  spent : l.steps ≤ l.fn.steps + l.number * cost_of_tree (plain_list l.values l.list.items);
+  spent : l.steps ≤ l.fn.steps + l.number * cost_of_tree (plain_list l.values l.fn.list.items);
 }

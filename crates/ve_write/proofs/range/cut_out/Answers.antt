@@ -1,5 +1,5 @@
 use Rattle.std.proofs.Common.{◌≡◌, ◌+◌, ◌-◌, length, take, drop, arith, ap, ◌∙◌}
-use Rattle.ve_items.proofs.Places.{range_more}
+use Rattle.ve_items.proofs.PositionLemmas.{range_more}
 use Rattle.ve_write.proofs.range.cut_out.Goals as goal
 
 pub loop-at-preserved : goal.loop-at-preserved

@@ -29,7 +29,7 @@ returns-in_err-entry-clause-steps g c = λ h.
 pub returns-clause-made : goal.returns-clause-made
 returns-clause-made g c =
     let same = c.as_slice.ensures ∙ c.in_ok-changes.ensures ∙ ap (λ s. typing s c.args.self.now.text.now) c.selection.ensures in
-    typed (replica_of c.args.trial.now.page) (replica_of c.perform_all.new.trial.page) c.args.self.now.text.now c.as_slice.result.now c.in_ok-entry.entry c.in_ok-caret.caret same c.in_ok-entry.ensures.ok c.in_ok-caret.ensures
+    typed c.args.trial.now.page c.perform_all.new.trial.page c.args.self.now.text.now c.as_slice.result.now c.in_ok-entry.entry c.in_ok-caret.caret same c.in_ok-entry.ensures.ok c.in_ok-caret.ensures
 
 pub returns-clause-steps : goal.returns-clause-steps
 returns-clause-steps g c = λ _.

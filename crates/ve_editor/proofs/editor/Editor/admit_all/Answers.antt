@@ -70,19 +70,19 @@ returns-then-txs-eq1-clause-steps g c =
 pub returns-in_err-kept-clause-steps : goal.returns-in_err-kept-clause-steps
 returns-in_err-kept-clause-steps g c =
     let ts = map (by_value c.args.values.now) c.args.txs.now in
-    copied_within ts c.args.self.now.items c.args.steps.now c.copy.new.steps c.perform_others.new.steps (mapped_several (by_value c.args.values.now) c.args.txs.now (eqb-false (length c.args.txs.now) 0 (sym c.is_empty.ensures ∙ c.if-is_empty.false)) c.if-txs-eq1.false) c.copy.ensures.steps
-    (subst (λ (q : LinkedPage). c.perform_others.new.steps ≤ c.copy.new.steps + cost_of_transactions ts q.items) c.in_ok-grown.ensures.ok c.perform_others.ensures.steps)
+    copied_within ts c.args.self.now.items c.args.steps.now c.share.new.steps c.perform_others.new.steps (mapped_several (by_value c.args.values.now) c.args.txs.now (eqb-false (length c.args.txs.now) 0 (sym c.is_empty.ensures ∙ c.if-is_empty.false)) c.if-txs-eq1.false) c.share.ensures.steps
+    (subst (λ (q : LinkedPage). c.perform_others.new.steps ≤ c.share.new.steps + cost_of_transactions ts q.items) c.in_ok-grown.ensures.ok c.perform_others.ensures.steps)
 
 pub returns-clause-steps : goal.returns-clause-steps
 returns-clause-steps g c =
     let ts = map (by_value c.args.values.now) c.args.txs.now in
-    copied_within ts c.args.self.now.items c.args.steps.now c.copy.new.steps c.perform_others.new.steps (mapped_several (by_value c.args.values.now) c.args.txs.now (eqb-false (length c.args.txs.now) 0 (sym c.is_empty.ensures ∙ c.if-is_empty.false)) c.if-txs-eq1.false) c.copy.ensures.steps
-    (subst (λ (q : LinkedPage). c.perform_others.new.steps ≤ c.copy.new.steps + cost_of_transactions ts q.items) c.in_ok-grown.ensures.ok c.perform_others.ensures.steps)
+    copied_within ts c.args.self.now.items c.args.steps.now c.share.new.steps c.perform_others.new.steps (mapped_several (by_value c.args.values.now) c.args.txs.now (eqb-false (length c.args.txs.now) 0 (sym c.is_empty.ensures ∙ c.if-is_empty.false)) c.if-txs-eq1.false) c.share.ensures.steps
+    (subst (λ (q : LinkedPage). c.perform_others.new.steps ≤ c.share.new.steps + cost_of_transactions ts q.items) c.in_ok-grown.ensures.ok c.perform_others.ensures.steps)
 
 pub returns-in_err-grown-clause-steps : goal.returns-in_err-grown-clause-steps
 returns-in_err-grown-clause-steps g c =
-    copy_within (map (by_value c.args.values.now) c.args.txs.now) c.args.self.now.items c.args.steps.now c.copy.new.steps
-    (mapped_several (by_value c.args.values.now) c.args.txs.now (eqb-false (length c.args.txs.now) 0 (sym c.is_empty.ensures ∙ c.if-is_empty.false)) c.if-txs-eq1.false) c.copy.ensures.steps
+    copy_within (map (by_value c.args.values.now) c.args.txs.now) c.args.self.now.items c.args.steps.now c.share.new.steps
+    (mapped_several (by_value c.args.values.now) c.args.txs.now (eqb-false (length c.args.txs.now) 0 (sym c.is_empty.ensures ∙ c.if-is_empty.false)) c.if-txs-eq1.false) c.share.ensures.steps
 
 pub returns-then-txs-eq1-clause-numbers : goal.returns-then-txs-eq1-clause-numbers
 returns-then-txs-eq1-clause-numbers g c =

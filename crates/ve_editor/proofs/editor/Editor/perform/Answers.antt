@@ -1,4 +1,4 @@
-use Rattle.std.proofs.Common.{◌≤◌, ◌+◌, [], ◌∷◌, sym, ap, ◌∙◌, subst}
+use Rattle.std.proofs.Common.{◌≡◌, ◌≢◌, None, ◌≤◌, ◌+◌, [], ◌∷◌, sym, ap, ◌∙◌, subst}
 use Rattle.model_site.specs.Entries.{entry_of}
 use Rattle.model_site.specs.Refused.{edit_cause}
 use Rattle.model_site.specs.Replica.{performed}
@@ -49,3 +49,11 @@ pub returns-in-Err-clause-kept : goal.returns-in-Err-clause-kept
 returns-in-Err-clause-kept g c =
     unchanged_cut c.args.self.now c.self.inside.store c.ready.new.store c.truncate.new.self c.len-before.result c.self.inside.list.items c.ready.new.list.items c.self.inside.selection
     c.self.inside.tree c.ready.new.tree c.self.view_is c.ready.ensures.extends c.len-before.ensures.count c.truncate.ensures c.ready.ensures.items c.in-Err.ensures.same c.ready.ensures.root
+
+pub returns-in-Ok-clause-steps_if_allowed : goal.returns-in-Ok-clause-steps_if_allowed
+returns-in-Ok-clause-steps_if_allowed g c =
+    subst (λ (r : LinkedPage). edit_cause (drafted r.store c.args.draft.now) (replica_of r) ≢ None → c.ready.new.steps ≡ c.args.steps.now) c.self.view_is c.ready.ensures.steps_if_allowed
+
+pub returns-in-Err-clause-steps_if_allowed : goal.returns-in-Err-clause-steps_if_allowed
+returns-in-Err-clause-steps_if_allowed g c =
+    subst (λ (r : LinkedPage). edit_cause (drafted r.store c.args.draft.now) (replica_of r) ≢ None → c.ready.new.steps ≡ c.args.steps.now) c.self.view_is c.ready.ensures.steps_if_allowed

@@ -49,7 +49,7 @@ pub put_all_back-requires-clause-stands : goal.put_all_back-requires-clause-stan
 put_all_back-requires-clause-stands g c = subst (λ (r : LinkedPage). AllStand (reversal_over r.store c.args.txs.now) r.items) (sym c.in_ok-copy.ensures.ok) c.requires.stands
 
 pub returns-clause-page : goal.returns-clause-page
-returns-clause-page g c = ap replica_of c.copy-2.view_is ∙ c.in_ok-put_all_back.ensures.page ∙ ap (λ (r : LinkedPage). all_put_back (reversal_over r.store c.args.txs.now) (replica_of r)) c.in_ok-copy.ensures.ok
+returns-clause-page g c = ap replica_of c.copy.view_is ∙ c.in_ok-put_all_back.ensures.page ∙ ap (λ (r : LinkedPage). all_put_back (reversal_over r.store c.args.txs.now) (replica_of r)) c.in_ok-copy.ensures.ok
 
 pub returns-then-txs-eq1-clause-steps : goal.returns-then-txs-eq1-clause-steps
 returns-then-txs-eq1-clause-steps g c =
@@ -61,19 +61,19 @@ returns-then-txs-eq1-clause-steps g c =
 pub returns-in_err-put_all_back-clause-steps : goal.returns-in_err-put_all_back-clause-steps
 returns-in_err-put_all_back-clause-steps g c =
     let r = c.args.self.now in
-    copied_within (reversal_over r.store c.args.txs.now) r.items c.args.steps.now c.copy.new.steps c.put_all_back.new.steps (reversal_several (by_value r.store) c.args.txs.now (eqb-false (length c.args.txs.now) 0 (sym c.is_empty.ensures ∙ c.if-is_empty.false)) c.if-txs-eq1.false) c.copy.ensures.steps
-    (subst (λ (q : LinkedPage). c.put_all_back.new.steps ≤ c.copy.new.steps + cost_of_transactions (reversal_over q.store c.args.txs.now) q.items) c.in_ok-copy.ensures.ok c.put_all_back.ensures.steps)
+    copied_within (reversal_over r.store c.args.txs.now) r.items c.args.steps.now c.share.new.steps c.put_all_back.new.steps (reversal_several (by_value r.store) c.args.txs.now (eqb-false (length c.args.txs.now) 0 (sym c.is_empty.ensures ∙ c.if-is_empty.false)) c.if-txs-eq1.false) c.share.ensures.steps
+    (subst (λ (q : LinkedPage). c.put_all_back.new.steps ≤ c.share.new.steps + cost_of_transactions (reversal_over q.store c.args.txs.now) q.items) c.in_ok-copy.ensures.ok c.put_all_back.ensures.steps)
 
 pub returns-clause-steps : goal.returns-clause-steps
 returns-clause-steps g c =
     let r = c.args.self.now in
-    copied_within (reversal_over r.store c.args.txs.now) r.items c.args.steps.now c.copy.new.steps c.put_all_back.new.steps (reversal_several (by_value r.store) c.args.txs.now (eqb-false (length c.args.txs.now) 0 (sym c.is_empty.ensures ∙ c.if-is_empty.false)) c.if-txs-eq1.false) c.copy.ensures.steps
-    (subst (λ (q : LinkedPage). c.put_all_back.new.steps ≤ c.copy.new.steps + cost_of_transactions (reversal_over q.store c.args.txs.now) q.items) c.in_ok-copy.ensures.ok c.put_all_back.ensures.steps)
+    copied_within (reversal_over r.store c.args.txs.now) r.items c.args.steps.now c.share.new.steps c.put_all_back.new.steps (reversal_several (by_value r.store) c.args.txs.now (eqb-false (length c.args.txs.now) 0 (sym c.is_empty.ensures ∙ c.if-is_empty.false)) c.if-txs-eq1.false) c.share.ensures.steps
+    (subst (λ (q : LinkedPage). c.put_all_back.new.steps ≤ c.share.new.steps + cost_of_transactions (reversal_over q.store c.args.txs.now) q.items) c.in_ok-copy.ensures.ok c.put_all_back.ensures.steps)
 
 pub returns-in_err-copy-clause-steps : goal.returns-in_err-copy-clause-steps
 returns-in_err-copy-clause-steps g c =
     let r = c.args.self.now in
-    copy_within (reversal_over r.store c.args.txs.now) r.items c.args.steps.now c.copy.new.steps (reversal_several (by_value r.store) c.args.txs.now (eqb-false (length c.args.txs.now) 0 (sym c.is_empty.ensures ∙ c.if-is_empty.false)) c.if-txs-eq1.false) c.copy.ensures.steps
+    copy_within (reversal_over r.store c.args.txs.now) r.items c.args.steps.now c.share.new.steps (reversal_several (by_value r.store) c.args.txs.now (eqb-false (length c.args.txs.now) 0 (sym c.is_empty.ensures ∙ c.if-is_empty.false)) c.if-txs-eq1.false) c.share.ensures.steps
 
 pub returns-then-txs-eq1-clause-numbers : goal.returns-then-txs-eq1-clause-numbers
 returns-then-txs-eq1-clause-numbers g c =
@@ -88,5 +88,5 @@ pub returns-clause-numbers : goal.returns-clause-numbers
 returns-clause-numbers g c =
     let r = c.args.self.now in
     let txs = c.args.txs.now in
-    subst (λ (p : LinkedPage). NumbersStayOver (reversal_over r.store txs) r.items r.nodes p.nodes) (sym c.copy-2.view_is)
+    subst (λ (p : LinkedPage). NumbersStayOver (reversal_over r.store txs) r.items r.nodes p.nodes) (sym c.copy.view_is)
     (subst (λ (q : LinkedPage). NumbersStayOver (reversal_over q.store txs) q.items q.nodes c.put_all_back.new.self.nodes) c.in_ok-copy.ensures.ok c.in_ok-put_all_back.ensures.numbers)

@@ -1,18 +1,20 @@
-use Rattle.std.proofs.Common.{◌≤◌, ◌+◌, All, List, sym, ap, ◌∙◌, subst}
+use Rattle.std.proofs.Common.{◌≡◌, ◌≢◌, None, ◌≤◌, ◌+◌, All, List, [], ◌∷◌, sym, ap, ◌∙◌, subst}
 use Rattle.model_change.specs.Cost.{cost_of_transaction}
 use Rattle.model_items.specs.declared.item.Item.{Item}
 use Rattle.model_items.specs.Plain.{CitesWell}
+use Rattle.model_site.specs.Entries.{entry_of}
 use Rattle.model_site.specs.Refused.{edit_cause}
 use Rattle.model_site.specs.Replica.{performed}
 use Rattle.ve_tree.specs.IsTree.{unvalued}
 use Rattle.ve_tree.specs.TreeOf.{IsTreeOf}
 use Rattle.ve_editor.specs.Edited.{drafted, drafted_values}
-use Rattle.ve_editor.specs.Page.{replica_of}
+use Rattle.ve_editor.specs.Page.{nodes_of_tree, replica_of}
 use Rattle.ve_editor.specs.Refusal.{IsEditRefusal}
+use Rattle.ve_editor.specs.Stays.{NumbersStay}
 use Rattle.ve_editor.specs.Trials.{Tried}
 use Rattle.ve_editor.proofs.GoBackLemmas.{first_stays, goes_back, notes_cut, page_cut, still_goes_back, values_cut}
-use Rattle.ve_editor.proofs.PerformLemmas.{performed_is, allowed_is}
-use Rattle.ve_editor.proofs.StayLemmas.{unchanged_cut}
+use Rattle.ve_editor.proofs.PerformLemmas.{performed_is, allowed_is, entry_is}
+use Rattle.ve_editor.proofs.StayLemmas.{committed_tree, numbers_drafted, unchanged_cut}
 use Rattle.ve_editor.proofs.trial.Trial.perform.Goals as goal
 
 pub invariant_of-self : goal.invariant_of-self
@@ -75,3 +77,29 @@ returns-in-Err-clause-kept g c =
 pub returns-in-Err-clause-steps : goal.returns-in-Err-clause-steps
 returns-in-Err-clause-steps g c =
     subst (λ (t : Tried). c.ready_on_trial.new.steps ≤ c.args.steps.now + cost_of_transaction (drafted t.page.store c.args.draft.now) t.page.items) c.self.view_is c.ready_on_trial.ensures.steps
+
+pub returns-in-Ok-clause-steps_if_allowed : goal.returns-in-Ok-clause-steps_if_allowed
+returns-in-Ok-clause-steps_if_allowed g c =
+    subst (λ (t : Tried). edit_cause (drafted t.page.store c.args.draft.now) (replica_of t.page) ≢ None → c.ready_on_trial.new.steps ≡ c.args.steps.now) c.self.view_is c.ready_on_trial.ensures.steps_if_allowed
+
+pub returns-in-Err-clause-steps_if_allowed : goal.returns-in-Err-clause-steps_if_allowed
+returns-in-Err-clause-steps_if_allowed g c =
+    subst (λ (t : Tried). edit_cause (drafted t.page.store c.args.draft.now) (replica_of t.page) ≢ None → c.ready_on_trial.new.steps ≡ c.args.steps.now) c.self.view_is c.ready_on_trial.ensures.steps_if_allowed
+
+pub returns-in-Ok-clause-numbers : goal.returns-in-Ok-clause-numbers
+returns-in-Ok-clause-numbers g c =
+    let t = c.self.inside in
+    subst (λ (s : Tried). NumbersStay (drafted s.page.store c.args.draft.now) s.page.items s.page.nodes (nodes_of_tree c.ready_on_trial.new.tree)) c.self.view_is
+    (numbers_drafted t.store c.args.draft.now t.list.items c.self.invariant.0.cites t.tree c.ready_on_trial.new.tree c.ready_on_trial.ensures.root c.in-Ok.ensures.numbers)
+
+pub returns-in-Ok-clause-tree : goal.returns-in-Ok-clause-tree
+returns-in-Ok-clause-tree g c =
+    let t = c.self.inside in
+    committed_tree (drafted t.store c.args.draft.now) t.store c.ready_on_trial.new.store c.ready_on_trial.new.list c.ready_on_trial.new.tree c.in-Ok.performing.change
+    c.commit.new.list.items c.in-Ok.ensures.ok.change c.commit.ensures.items
+
+pub returns-in-Ok-clause-entry : goal.returns-in-Ok-clause-entry
+returns-in-Ok-clause-entry g c =
+    entry_is c.args.draft.now c.self.inside.store c.ready_on_trial.new.store c.self.inside.list.items c.self.inside.selection c.ready_on_trial.new.list c.ready_on_trial.new.tree c.in-Ok.performing c.in-Ok.ensures.ok
+    c.ready_on_trial.ensures.items
+    ∙ ap (λ (t : Tried). entry_of (drafted t.page.store c.args.draft.now ∷ []) (replica_of t.page)) c.self.view_is

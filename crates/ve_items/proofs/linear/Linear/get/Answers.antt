@@ -1,6 +1,6 @@
 use Rattle.std.proofs.Common.{ap, ◌∙◌, sym}
 use Rattle.std.specs.List.{slice_get}
-use Rattle.ve_items.proofs.Places.{item_at}
+use Rattle.ve_items.proofs.PositionLemmas.{item_at}
 use Rattle.ve_items.proofs.linear.Linear.get.Goals as goal
 
 pub returns : goal.returns

@@ -2,7 +2,7 @@ use Rattle.std.proofs.Common.{◌≡◌, ◌+◌, ◌-◌, ◌<◌, ◌≤◌, l
 use Rattle.std.proofs.lemmas.List.{length-take-le}
 use Rattle.std.proofs.Common.{length-drop}
 use Rattle.ve_items.specs.Blocks.{joined}
-use Rattle.ve_items.proofs.Places.{inside_block, range_to}
+use Rattle.ve_items.proofs.PositionLemmas.{inside_block, range_to}
 use Rattle.ve_items.proofs.linear.Linear.last_piece.Goals as goal
 
 pub returns-clause-items : goal.returns-clause-items

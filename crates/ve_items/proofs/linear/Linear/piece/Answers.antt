@@ -1,6 +1,6 @@
 use Rattle.std.proofs.Common.{◌≡◌, ◌+◌, ◌-◌, ◌≤◌, length, min, take, drop, arith, rules, ap, ◌∙◌}
 use Rattle.ve_items.specs.Blocks.{joined}
-use Rattle.ve_items.proofs.Places.{inside_block, range_at, range_length}
+use Rattle.ve_items.proofs.PositionLemmas.{inside_block, range_at, range_length}
 use Rattle.ve_items.proofs.linear.Linear.piece.Goals as goal
 
 pub returns-clause-items : goal.returns-clause-items

@@ -2,6 +2,7 @@ use Rattle.std.proofs.Common.{length, map, sym, ap, ◌∙◌}
 use Rattle.model_site.specs.Site.{pending}
 use Rattle.ve_tx.specs.ByValue.{parcel_by_value}
 use Rattle.ve_site.specs.Numbered.{Numbered, with_site}
+use Rattle.ve_site.specs.Underway.{taking_site}
 use Rattle.ve_site.proofs.InPlaceLemmas.{copy_counts, copy_runs, copy_takes}
 use Rattle.ve_site.proofs.site.Site.take_on_copy.Goals as goal
 
@@ -17,6 +18,7 @@ replace_with-requires g c = c.in_ok-take_all.ensures.is
 pub returns-clause-site : goal.returns-clause-site
 returns-clause-site g c =
     c.replace_with.ensures
+    ∙ ap (λ v. with_site (taking_site c.take_all.new.self) v) c.of.ensures.kept
     ∙ ap (λ s. with_site s c.args.self.now)
     (c.in_ok-take_all.ensures.site ∙ copy_takes (map parcel_by_value c.args.parcels.now) c.args.self.now.site c.in_ok-taking.taking c.in_ok-taking.ensures.site)
 

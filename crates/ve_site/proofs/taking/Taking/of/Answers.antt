@@ -23,7 +23,7 @@ returns-clause-is g c =
     (ap replica_of c.in_ok-editor.ensures.ok) (c.into_vec.ensures ∙ (c.in_ok-sent.ensures ∙ c.as_slice.ensures.value)) (c.in_ok-unsent.ensures ∙ c.done.ensures) refl
 
 pub returns-clause-steps : goal.returns-clause-steps
-returns-clause-steps g c = subst (λ (v : Numbered). c.copy-2.new.steps ≤ c.args.steps.now + cost_of_tree v.site.replica.items) c.site.view_is c.copy-2.ensures.steps
+returns-clause-steps g c = subst (λ (v : Numbered). c.share.new.steps ≤ c.args.steps.now + cost_of_tree v.site.replica.items) c.site.view_is c.share.ensures.steps
 
 pub returns-in_err-editor-clause-steps : goal.returns-in_err-editor-clause-steps
-returns-in_err-editor-clause-steps g c = subst (λ (v : Numbered). c.copy-2.new.steps ≤ c.args.steps.now + cost_of_tree v.site.replica.items) c.site.view_is c.copy-2.ensures.steps
+returns-in_err-editor-clause-steps g c = subst (λ (v : Numbered). c.share.new.steps ≤ c.args.steps.now + cost_of_tree v.site.replica.items) c.site.view_is c.share.ensures.steps

@@ -1,15 +1,18 @@
 use Rattle.std.proofs.Common.{◌≤◌, ◌+◌, ◌*◌, subst}
 use Rattle.ve_tree.specs.IsTree.{unvalued}
 use Rattle.ve_tree.specs.Grown.{ReadChildren, count_from}
-use Rattle.ve_tree.proofs.BuildLemmas.{built_is_tree, steps_built}
+use Rattle.ve_tree.proofs.BuildLemmas.{built_is_tree, steps_built, within_cost}
 use Rattle.ve_tree.proofs.tree.Tree.build.Goals as goal
 
-pub returns-in_err-read_children-clause-steps : goal.returns-in_err-read_children-clause-steps
-returns-in_err-read_children-clause-steps g c =
+pub returns-in_err-read_children-clause-six_a_node : goal.returns-in_err-read_children-clause-six_a_node
+returns-in_err-read_children-clause-six_a_node g c =
     steps_built c.args.steps.now c.make.new.steps c.set_len.new.steps c.read_children.new.steps c.args.list.now.items c.new-rest.result.left c.requires
     c.in_ok-root.ensures.step c.set_len.ensures.step
     (subst (λ items. c.read_children.new.steps + 6 * count_from items c.new-rest.result.left ≤ c.set_len.new.steps + 6 * count_from items 0) c.new-rest.ensures.items
     c.in_err-read_children.ensures.steps)
+
+pub returns-in_err-read_children-clause-steps : goal.returns-in_err-read_children-clause-steps
+returns-in_err-read_children-clause-steps g c = within_cost c.args.steps.now c.read_children.new.steps (unvalued c.args.list.now.items) (returns-in_err-read_children-clause-six_a_node g c)
 
 pub landmarks_of-landmarks-requires : goal.landmarks_of-landmarks-requires
 landmarks_of-landmarks-requires g c = record {
@@ -29,9 +32,12 @@ returns-clause-tree g c = record {
   landmarks = c.landmarks_of-landmarks.ensures;
 }
 
-pub returns-clause-steps : goal.returns-clause-steps
-returns-clause-steps g c =
+pub returns-clause-six_a_node : goal.returns-clause-six_a_node
+returns-clause-six_a_node g c =
     steps_built c.args.steps.now c.make.new.steps c.set_len.new.steps c.read_children.new.steps c.args.list.now.items c.new-rest.result.left c.requires
     c.in_ok-root.ensures.step c.set_len.ensures.step
     (subst (λ items. c.read_children.new.steps + 6 * count_from items c.new-rest.result.left ≤ c.set_len.new.steps + 6 * count_from items 0) c.new-rest.ensures.items
     c.in_ok-read_children.ensures.steps)
+
+pub returns-clause-steps : goal.returns-clause-steps
+returns-clause-steps g c = within_cost c.args.steps.now c.read_children.new.steps (unvalued c.args.list.now.items) (returns-clause-six_a_node g c)
