@@ -4,7 +4,7 @@ use Rattle.std.proofs.Common.{◌≡◌, ◌∷◌, List, [], Option, Some, None
 use Rattle.ve_kinds.specs.declared.kind.Kind.TheVariants.{P}
 use Rattle.ve_arena.specs.declared.node.NodeWhat.TheVariants.{Node, Run}
 use Rattle.ve_arena.specs.declared.node.ArenaNode.{ArenaNode}
-use Rattle.ve_arena.specs.Arena.{node_under, new_node, with_parent, with_first, with_last, with_before, with_after, with_len, live_count}
+use Rattle.ve_arena.specs.Arena.{node_under, new_node, with_parent, with_first, with_last, with_before, with_after, with_len, live_count, settled, first_slots}
 
 abbrev text : ArenaNode
 text = with_len 3 (with_parent (Some (record { 0 = 0 })) (new_node Run))
@@ -27,3 +27,10 @@ written = refl
 
 counted : live_count slots ≡ 2
 counted = refl
+
+-- A trial began when the paragraph had no text; without a trial, the slots are their own first ones.
+began : first_slots (record { slots = slots; first = Some (Some (new_node (Node P)) ∷ []) }) ≡ Some (new_node (Node P)) ∷ []
+began = refl
+
+no_trial : first_slots (settled slots) ≡ slots
+no_trial = refl

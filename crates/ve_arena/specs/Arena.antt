@@ -1,9 +1,23 @@
 -- An arena as a finite map: the slots give the node under each number, or nothing. What one write
--- changes.
+-- changes, and what the slots were when a trial began.
 use Rattle.std.specs.Prelude.{◌≡◌, ◌≢◌, ℕ, List, Option, None, is_some, IsSome, count_by, slice_index_or, option_map}
+use Rattle.std.specs.Option.{option_map_or}
 use Rattle.ve_arena.specs.declared.node.NodeId.{NodeId}
 use Rattle.ve_arena.specs.declared.node.NodeWhat.{NodeWhat}
 use Rattle.ve_arena.specs.declared.node.ArenaNode.{ArenaNode}
+
+-- The view of an arena: its slots, and during a trial those that were there when it began.
+pub record ArenaView : Type 0 where
+  pub slots : List (Option ArenaNode)
+  pub first : Option (List (Option ArenaNode))
+
+-- an arena in which no trial runs
+abbrev pub settled : List (Option ArenaNode) → ArenaView
+settled slots = record { slots = slots; first = None }
+
+-- the slots that were there when the trial began; without a trial those that are there
+abbrev pub first_slots : ArenaView → List (Option ArenaNode)
+first_slots arena = option_map_or (λ slots. slots) arena.first arena.slots
 
 -- the node in the slot of a number; none past the last slot
 abbrev pub slot_at : List (Option ArenaNode) → ℕ → Option ArenaNode
