@@ -42,15 +42,15 @@ changes : Costs
 unfolding page_on_literals is_utf8 digits
 changes = refl
 
--- each on a copy; what was made before a refusal counts
+-- each in place, beside a page without text; what was made before a refusal counts
 batches : Costs
     ((codes "{\"do\":\"open\",\"page\":\"<p>ab</p>\"}", 40)
-    ∷ (codes "{\"do\":\"batch\",\"cmds\":[{\"do\":\"text\",\"at\":2,\"text\":\"X\"}]}", 40 + 40)
+    ∷ (codes "{\"do\":\"batch\",\"cmds\":[{\"do\":\"text\",\"at\":2,\"text\":\"X\"}]}", 8 + 40)
     ∷ (codes "{\"do\":\"undo\"}", 40)
-    ∷ (codes "{\"do\":\"batch\",\"cmds\":[{\"do\":\"text\",\"at\":2,\"text\":\"X\"},{\"do\":\"text\",\"at\":2,\"text\":\"Y\"}]}", 40 + (40 + 40))
+    ∷ (codes "{\"do\":\"batch\",\"cmds\":[{\"do\":\"text\",\"at\":2,\"text\":\"X\"},{\"do\":\"text\",\"at\":2,\"text\":\"Y\"}]}", 8 + (40 + 40))
     ∷ (codes "{\"do\":\"undo\"}", 40 + (40 + 40))
     ∷ (codes "{\"do\":\"redo\"}", 40 + (40 + 40))
-    ∷ (codes "{\"do\":\"batch\",\"cmds\":[{\"do\":\"text\",\"at\":2,\"text\":\"X\"},{\"do\":\"remove\",\"from\":30,\"to\":31}]}", 40 + 40)
+    ∷ (codes "{\"do\":\"batch\",\"cmds\":[{\"do\":\"text\",\"at\":2,\"text\":\"X\"},{\"do\":\"remove\",\"from\":30,\"to\":31}]}", 8 + 40)
     ∷ (codes "{\"do\":\"batch\",\"cmds\":[]}", 0)
     ∷ [])
 unfolding page_on_literals is_utf8 digits
@@ -61,7 +61,7 @@ typing : Costs
     ∷ (codes "{\"do\":\"select\",\"anchor\":2,\"focus\":2}", 0)
     ∷ (codes "{\"do\":\"type\",\"text\":\"X\"}", 40)
     ∷ (codes "{\"do\":\"select\",\"anchor\":2,\"focus\":3}", 0)
-    ∷ (codes "{\"do\":\"type\",\"text\":\"Y\"}", 40 + (40 + 40))
+    ∷ (codes "{\"do\":\"type\",\"text\":\"Y\"}", 8 + (40 + 40))
     ∷ (codes "{\"do\":\"select\",\"anchor\":1,\"focus\":2}", 0)
     ∷ (codes "{\"do\":\"erase\",\"dir\":\"back\"}", 40)
     ∷ [])

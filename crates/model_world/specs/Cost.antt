@@ -1,7 +1,7 @@
 -- How many steps a line may take. A step makes a node of a linked tree, lets one go, or writes one
 -- field of one. It is said by the nodes of the model's trees alone: how many a list's tree has, and
 -- how many a transaction touches.
-use Rattle.std.specs.Prelude.{ℕ, ◌+◌, ◌*◌, nat_le, nat_lt, Bool, true, false, not, ◌||◌, if◌then◌else◌, List, [], ◌∷◌, length, map, slice_get, Option, Some, None, Result, Ok, Err}
+use Rattle.std.specs.Prelude.{ℕ, ◌+◌, ◌*◌, nat_le, nat_lt, Bool, true, false, ◌||◌, if◌then◌else◌, List, [], ◌∷◌, length, map, slice_get, Option, Some, None, Result, Ok, Err}
 use Rattle.ve_base.specs.Limits.{max_line}
 use Rattle.model_items.specs.declared.plain_item.PlainItem.{PlainItem}
 use Rattle.model_items.specs.Cost.{cost_of_tree}
@@ -81,28 +81,30 @@ made_by opened w m (request.Indent at) = moving m.site.replica (refused_as list_
 made_by opened w m (request.Outdent at) = moving m.site.replica (refused_as list_refusal (outdent m.site.replica.items at))
 made_by opened w m _ = []
 
--- ---- the copy of the page, so that a line is done whole or not at all
+-- ---- what is made besides, so that a line is done whole or not at all
 
 -- the next feed has several entries, each of which has one transaction at least
 abbrev pub takes_several : List SiteFeed → Bool
 takes_several (Foreign (one ∷ other ∷ entries) ∷ later) = true
 takes_several feeds = false
 
--- A batch and a text that is typed over a selection are made on a copy; so is what makes several
--- transactions. A text that is typed at a caret isn't.
-abbrev pub is_on_copy : Request → Member → List Transaction → Bool
-is_on_copy (request.Batch cmds) m ts = true
-is_on_copy (request.TypeText text) m ts = not (is_collapsed m.site.replica.selection)
-is_on_copy request.Take m ts = takes_several m.feeds || nat_le 2 (length ts)
-is_on_copy _ m ts = nat_le 2 (length ts)
+-- the tree of a page without text: its root and a paragraph
+abbrev pub cost_of_blank : ℕ
+cost_of_blank = 8
+
+-- A batch, and a text that is typed over a selection, are made in place; a page without text stands
+-- there meanwhile. What else makes several transactions is made on a copy of the page, as is a feed
+-- of several entries.
+abbrev pub cost_besides : Request → Member → List Transaction → ℕ
+cost_besides (request.Batch cmds) m ts = cost_of_blank
+cost_besides (request.TypeText text) m ts = if is_collapsed m.site.replica.selection then 0 else cost_of_blank
+cost_besides request.Take m ts = if takes_several m.feeds || nat_le 2 (length ts) then cost_of_tree m.site.replica.items else 0
+cost_besides _ m ts = if nat_le 2 (length ts) then cost_of_tree m.site.replica.items else 0
 
 -- ---- a line
 
-abbrev pub cost_of_made : Bool → List Transaction → List PlainItem → ℕ
-cost_of_made on_copy ts items = (if on_copy then cost_of_tree items else 0) + cost_of_transactions ts items
-
 abbrev pub cost_of_request : (opened : List PlainItem) → Session → Member → Request → ℕ
-cost_of_request opened w m r = let ts = made_by opened w m r in cost_of_made (is_on_copy r m ts) ts m.site.replica.items
+cost_of_request opened w m r = let ts = made_by opened w m r in cost_besides r m ts + cost_of_transactions ts m.site.replica.items
 
 -- a page that is opened for so many sites: a tree for each
 abbrev pub cost_of_opening : ℕ → Result Opened Refusal → ℕ

@@ -5,6 +5,10 @@ use Rattle.model_change.specs.Transaction.{Transaction}
 use Rattle.model_items.specs.Cost.{cost_of_tree}
 use Rattle.model_change.specs.Cost.{cost_of_transactions}
 
+-- those of a page without text, which stands in the place of one that is moved out
+abbrev pub steps_of_blank : ℕ
+steps_of_blank = 8
+
 -- those of a copy of the page, on which transactions are made where there are several
 abbrev pub steps_of_copy : List Transaction → List PlainItem → ℕ
 steps_of_copy [] items = 0

@@ -9,16 +9,19 @@ use Rattle.model_site.specs.Refused.{edit_cause}
 use Rattle.model_site.specs.Replica.{Replica}
 use Rattle.model_site.specs.Session.{Member, Session}
 use Rattle.model_world.specs.declared.command.Request.TheVariants as request
-use Rattle.model_world.specs.declared.edit_command.EditCommand.{EditCommand}
 use Rattle.model_world.specs.declared.refusal.Refusal.{Refusal}
 use Rattle.model_world.specs.Edits.{checked_transaction, unless_faulty}
 use Rattle.model_change.specs.Cost.{cost_of_transactions}
 use Rattle.model_items.specs.Cost.{cost_of_tree}
-use Rattle.model_world.specs.Cost.{cost_of_made, cost_of_opening, made_in_turn, made_of, revoking_seen}
+use Rattle.model_world.specs.Cost.{cost_of_opening, made_of, revoking_seen}
 use Rattle.ve_editor.specs.Counted.{steps_over}
 use Rattle.ve_session.specs.Asked.{cost_completed}
 
 -- ---- trees and transactions
+
+-- transactions, and a copy of the page where they are made on one
+abbrev pub cost_of_made : Bool → List Transaction → List PlainItem → ℕ
+cost_of_made on_copy ts items = (if on_copy then cost_of_tree items else 0) + cost_of_transactions ts items
 
 -- what is made on a copy only where it is several
 pub over_within : (ts : List Transaction) (items : List PlainItem) → steps_over ts items ≤ cost_of_made (nat_le 2 (length ts)) ts items
@@ -50,14 +53,6 @@ pub cost_of_meant : (r : Replica) (meant : Result Transaction Refusal) (t : Tran
 cost_of_meant r meant t old new means h =
     in_place (checked_transaction r meant) r.items old new
     (subst (λ m. new ≤ old + cost_of_transactions (made_of (checked_transaction r m)) r.items) (sym means) h)
-
--- ---- changes made on a copy of the page that is borrowed
-
-pub cost_at : (lent r : Replica) (given changes : List EditCommand) (old new : ℕ) → lent ≡ r → given ≡ changes →
-    new ≤ old + cost_of_made true (made_in_turn lent given) lent.items → new ≤ old + cost_of_made true (made_in_turn r changes) r.items
-cost_at lent r given changes old new same as_given h =
-    subst (λ cs. new ≤ old + cost_of_made true (made_in_turn r cs) r.items) as_given
-    (subst (λ (x : Replica). new ≤ old + cost_of_made true (made_in_turn x given) x.items) same h)
 
 -- ---- a page that opens
 

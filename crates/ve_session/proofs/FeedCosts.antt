@@ -8,12 +8,12 @@ use Rattle.model_site.specs.Made.{taking_all, taking_one}
 use Rattle.model_site.specs.Session.{Ack, Foreign, Member, Session, SiteFeed}
 use Rattle.model_site.specs.Site.{Site}
 use Rattle.model_world.specs.declared.command.Request.TheVariants as request
-use Rattle.model_world.specs.Cost.{cost_of_made, takes_several, taking}
+use Rattle.model_world.specs.Cost.{takes_several, taking}
 use Rattle.ve_editor.specs.Counted.{steps_over}
 use Rattle.ve_site.specs.Taking.{steps_of_take}
 use Rattle.ve_sites.specs.Turns.{steps_of_next, steps_of_turn}
 use Rattle.ve_session.specs.Asked.{cost_completed}
-use Rattle.ve_session.proofs.CostLemmas.{over_within}
+use Rattle.ve_session.proofs.CostLemmas.{cost_of_made, over_within}
 
 -- whether a turn at these feeds, which makes these transactions, is made on a copy
 abbrev on_copy : List SiteFeed → List Transaction → Bool

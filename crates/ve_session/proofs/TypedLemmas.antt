@@ -1,8 +1,7 @@
 -- A text typed at a caret: one change that is made in place; and one typed over a selection.
-use Rattle.std.proofs.Common.{◌≡◌, ◌≢◌, ◌≤◌, ◌+◌, ℕ, true, false, not, arith, List, [], ◌∷◌, None, refl, ap, sym, subst, ◌∙◌, eq-eqb, ne_eqb}
-use Rattle.std.specs.Prelude.{Ok}
+use Rattle.std.proofs.Common.{◌≡◌, ◌≢◌, ◌≤◌, ◌+◌, ℕ, Bool, true, false, arith, List, [], ◌∷◌, None, refl, ap, sym, subst, ◌∙◌, eq-eqb, ne_eqb}
+use Rattle.std.specs.Prelude.{Ok, if◌then◌else◌}
 use Rattle.model_change.specs.Transaction.{Transaction}
-use Rattle.model_items.specs.Cost.{cost_of_tree}
 use Rattle.model_items.specs.declared.plain_item.PlainItem.{PlainItem}
 use Rattle.model_site.specs.Refused.{edit_cause}
 use Rattle.model_site.specs.Replica.{Replica}
@@ -14,7 +13,7 @@ use Rattle.model_world.specs.declared.edit_command.TextMarks.TheVariants.{Left}
 use Rattle.model_world.specs.declared.command.Request.TheVariants as request
 use Rattle.model_world.specs.Answers.{is_collapsed, lower, typed_or_no, typing}
 use Rattle.model_world.specs.Edits.{batch_on, change_of, change_on}
-use Rattle.model_world.specs.Cost.{cost_of_made, made_in_turn}
+use Rattle.model_world.specs.Cost.{cost_of_blank, made_in_turn}
 use Rattle.ve_changes.proofs.BatchLemmas.{allowed_is, cost_of_lone, lone_batch, lone_refused, not_allowed, undrafted}
 use Rattle.ve_changes.proofs.TypingLemmas.{typing_caret}
 use Rattle.ve_changes.specs.Batches.{IsBatchRefused}
@@ -25,11 +24,19 @@ use Rattle.ve_changes.specs.declared.faults.ChangeStop.TheVariants as stop
 use Rattle.ve_changes.specs.Stops.{IsRefused, edit_stop}
 use Rattle.ve_changes.proofs.StopLemmas.{edit_stops}
 use Rattle.model_change.specs.Cost.{cost_of_transactions}
+use Rattle.ve_editor.specs.Counted.{steps_of_blank}
 use Rattle.ve_editor.specs.Refusal.{IsEditRefusal}
 use Rattle.ve_session.specs.Asked.{asker, IsStopped}
 use Rattle.ve_session.specs.Stopped.{typing_stop}
 use Rattle.ve_session.proofs.TurnLemmas.{edit_was}
 use Rattle.ve_sites.specs.Shared.{Shared, site_at, with_site_at}
+
+-- what transactions take, and a page without text where no caret is selected
+abbrev cost_beside : (caret : Bool) → List Transaction → List PlainItem → ℕ
+cost_beside caret ts items = (if caret then 0 else cost_of_blank) + cost_of_transactions ts items
+
+abbrev pub cost_of_typing : Replica → List ℕ → ℕ
+cost_of_typing r text = cost_beside (is_collapsed r.selection) (made_in_turn r (typing r.selection text)) r.items
 
 module _ (k : ℕ) (old : Shared) (text : List ℕ) (at : ℕ)
     (caret : (site_at old k).replica.selection.anchor ≡ (site_at old k).replica.selection.focus)
@@ -60,28 +67,28 @@ module _ (k : ℕ) (old : Shared) (text : List ℕ) (at : ℕ)
       IsStopped (request.TypeText text) k old (edit_stop fault)
   barred_typing t fault means e = stopped (edit_stop fault) (not_allowed r put t (edit_stop fault) means (edit_stops fault (edit_cause t r) t e))
 
-  -- it takes no copy of the page
+  -- nothing is made besides
   pub typing_cost : (t : Transaction) (before after : ℕ) → change_of r.items put ≡ Ok t → edit_cause t r ≡ None → after ≤ before + cost_of_transactions (t ∷ []) r.items →
-      after ≤ before + cost_of_made (not (is_collapsed r.selection)) (made_in_turn r (typing r.selection text)) r.items
+      after ≤ before + cost_of_typing r text
   typing_cost t before after means fits h =
       let own = cost_of_lone r put t before after (allowed_is r put t means fits) (omega (arith, h)) in
-      let in_place : after ≤ before + cost_of_made false (made_in_turn r (put ∷ [])) r.items = omega (arith, own) in
-      subst (λ b. after ≤ before + cost_of_made (not b) (made_in_turn r (typing r.selection text)) r.items) (sym (eq-eqb r.selection.anchor r.selection.focus caret))
-      (subst (λ cs. after ≤ before + cost_of_made false (made_in_turn r cs) r.items) is_typing in_place)
+      let in_place : after ≤ before + cost_beside true (made_in_turn r (put ∷ [])) r.items = omega (arith, own) in
+      subst (λ b. after ≤ before + cost_beside b (made_in_turn r (typing r.selection text)) r.items) (sym (eq-eqb r.selection.anchor r.selection.focus caret))
+      (subst (λ cs. after ≤ before + cost_beside true (made_in_turn r cs) r.items) is_typing in_place)
 
--- ---- a text typed over a selection: two changes that are made on a copy
+-- ---- a text typed over a selection: two changes, all or none
 
 module _ (k : ℕ) (old : Shared) (given text : List ℕ) (same : given ≡ text) where
   abbrev s : Site
   s = site_at old k
 
   pub over_cost : (before after : ℕ) → s.replica.selection.anchor ≢ s.replica.selection.focus →
-      after ≤ before + cost_of_tree s.replica.items + cost_of_transactions (made_in_turn s.replica (typing s.replica.selection given)) s.replica.items →
-      after ≤ before + cost_of_made (not (is_collapsed s.replica.selection)) (made_in_turn s.replica (typing s.replica.selection text)) s.replica.items
+      after ≤ before + steps_of_blank + cost_of_transactions (made_in_turn s.replica (typing s.replica.selection given)) s.replica.items →
+      after ≤ before + cost_of_typing s.replica text
   over_cost before after range h =
-      let copied : after ≤ before + cost_of_made true (made_in_turn s.replica (typing s.replica.selection given)) s.replica.items = omega (arith, h) in
-      subst (λ b. after ≤ before + cost_of_made (not b) (made_in_turn s.replica (typing s.replica.selection text)) s.replica.items) (sym (ne_eqb s.replica.selection.anchor s.replica.selection.focus range))
-      (subst (λ t. after ≤ before + cost_of_made true (made_in_turn s.replica (typing s.replica.selection t)) s.replica.items) same copied)
+      let besides : after ≤ before + cost_beside false (made_in_turn s.replica (typing s.replica.selection given)) s.replica.items = omega (arith, h) in
+      subst (λ b. after ≤ before + cost_beside b (made_in_turn s.replica (typing s.replica.selection text)) s.replica.items) (sym (ne_eqb s.replica.selection.anchor s.replica.selection.focus range))
+      (subst (λ t. after ≤ before + cost_beside false (made_in_turn s.replica (typing s.replica.selection t)) s.replica.items) same besides)
 
   pub over_stops : (why : BatchStop) → IsBatchRefused (batch_on s.replica (typing s.replica.selection given)) why → IsStopped (request.TypeText text) k old (typing_stop why)
   over_stops (batch.Refused at why) e = λ page.

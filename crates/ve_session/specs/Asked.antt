@@ -89,7 +89,7 @@ made_completed w m r = made_by [] w m r
 
 -- and its cost
 abbrev pub cost_completed : Session → Member → Request → ℕ
-cost_completed w m r = let ts = made_completed w m r in cost_of_made (is_on_copy r m ts) ts m.site.replica.items
+cost_completed w m r = let ts = made_completed w m r in cost_besides r m ts + cost_of_transactions ts m.site.replica.items
 
 -- The answer and the new session are what the model answers to the request, which is
 -- completed, on whatever page it is asked.

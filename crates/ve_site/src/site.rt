@@ -70,14 +70,13 @@ impl Site {
     ghost use Rattle.ve_editor.specs.Refusal.{IsEditRefusal};
     ghost use Rattle.ve_offsets.specs.Docs.{page_items};
     ghost use Rattle.model_change.specs.Cost.{cost_of_transactions};
-    ghost use Rattle.ve_editor.specs.Counted.{steps_over};
+    ghost use Rattle.ve_editor.specs.Counted.{steps_of_blank, steps_over};
     ghost use Rattle.model_site.specs.Made.{undoing, redoing};
     ghost use Rattle.ve_server.specs.Fed.{submission_of};
     ghost use Rattle.ve_tx.specs.ByValue.{parcel_by_value, ParcelCites};
     ghost use Rattle.ve_site.specs.Numbered.{with_site};
     ghost use Rattle.ve_site.specs.Settled.{with_new_entry, Settles};
     ghost use Rattle.ve_site.specs.Attempted.{IsAttempted};
-    ghost use Rattle.model_items.specs.Cost.{cost_of_tree};
     ghost use Rattle.ve_site.specs.Refusal.{IsUndoRefusal, IsRedoRefusal, IsSendRefusal, send_refusal};
     ghost use Rattle.model_site.specs.Refused.{edit_cause};
 
@@ -203,7 +202,7 @@ impl Site {
     /// Makes the changes of an attempt, all of them or none, as one new entry; undone entries can't
     /// be redone then. An `Err` changes nothing.
     ///
-    /// The steps are those of the changes, and of one copy of the tree.
+    /// The steps are those of the changes, and of a page without text.
     pub fn attempt<A: Attempt, L: Ledger>(
         &mut self,
         attempt: &A,
@@ -220,7 +219,7 @@ impl Site {
         ensures steps { IfErr result A.is_refusal
             → steps.new
             ≤ steps.old
-            + cost_of_tree self.old.site.replica.items
+            + steps_of_blank
             + A.cost attempt.now self.old.site.replica }
     {
         if self.history.reserve().is_err() {

@@ -6,8 +6,7 @@ ghost use Rattle.model_site.specs.Live.{revocation};
 ghost use Rattle.model_site.specs.Site.{edit, entries_of, hinted_entries, hints_of, redo, revoke_entry, undo, with_selection, with_told};
 ghost use Rattle.model_site_law.specs.SelectionLaws.{StandsIn};
 ghost use Rattle.model_change.specs.Cost.{cost_of_transactions};
-ghost use Rattle.model_items.specs.Cost.{cost_of_tree};
-ghost use Rattle.ve_editor.specs.Counted.{steps_over};
+ghost use Rattle.ve_editor.specs.Counted.{steps_of_blank, steps_over};
 ghost use Rattle.ve_editor.specs.Edited.{IsDraftOf, drafted};
 ghost use Rattle.ve_editor.specs.Refusal.{IsEditRefusal};
 ghost use Rattle.ve_peer_undo.specs.Counting.{hinted_parcel, RunFromPage};
@@ -106,7 +105,7 @@ impl Sites {
     /// Makes the changes of an attempt at site `k`, all of them or none, as one new entry. An `Err`
     /// changes nothing.
     ///
-    /// The steps are those of the changes, and of one copy of the tree.
+    /// The steps are those of the changes, and of a page without text.
     pub fn attempt<A: Attempt, L: Ledger>(
         &mut self,
         k: usize,
@@ -125,7 +124,7 @@ impl Sites {
         ensures steps { IfErr result A.is_refusal
             → steps.new
             ≤ steps.old
-            + cost_of_tree (site_at self.old k).replica.items
+            + steps_of_blank
             + A.cost attempt.now (site_at self.old k).replica }
     {
         self.members[k].attempt(attempt, steps)

@@ -7,13 +7,12 @@ ghost use Rattle.model_site.specs.Session.{site_after, taken_as};
 ghost use Rattle.model_site.specs.Site.{edit, redo, send, undo, with_entry_against, with_selection, with_told};
 ghost use Rattle.model_site_law.specs.SelectionLaws.{StandsIn};
 ghost use Rattle.model_change.specs.Cost.{cost_of_transactions};
-ghost use Rattle.ve_editor.specs.Counted.{steps_over};
+ghost use Rattle.ve_editor.specs.Counted.{steps_of_blank, steps_over};
 ghost use Rattle.ve_editor.specs.Edited.{IsDraftOf, drafted};
 ghost use Rattle.ve_editor.specs.Refusal.{IsEditRefusal};
 ghost use Rattle.ve_server.specs.Fed.{feed_of, submission_of};
 ghost use Rattle.model_site.specs.Made.{redoing, undoing};
 ghost use Rattle.ve_site.specs.Refusal.{IsRedoRefusal, IsSendRefusal, IsUndoRefusal};
-ghost use Rattle.model_items.specs.Cost.{cost_of_tree};
 ghost use Rattle.ve_site.specs.Attempted.{IsAttempted};
 ghost use Rattle.ve_site.specs.Taking.{MayTake, steps_of_take};
 ghost use Rattle.ve_sites.specs.Senders.{at_site, HasGone};
@@ -115,7 +114,7 @@ impl Member {
         ensures steps { IfErr result A.is_refusal
             → steps.new
             ≤ steps.old
-            + cost_of_tree self.old.site.replica.items
+            + steps_of_blank
             + A.cost attempt.now self.old.site.replica }
     {
         self.site.attempt(attempt, steps)

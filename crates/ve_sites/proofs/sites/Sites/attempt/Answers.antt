@@ -1,7 +1,7 @@
 use Rattle.std.specs.Prelude.{vec_len}
 use Rattle.std.proofs.Common.{rules, arith, length, ◌≡◌, ◌≤◌, ◌+◌, IfOk, IfErr}
-use Rattle.model_items.specs.Cost.{cost_of_tree}
 use Rattle.model_site.specs.Site.{Site}
+use Rattle.ve_editor.specs.Counted.{steps_of_blank}
 use Rattle.ve_site.specs.Attempted.{IsAttempted}
 use Rattle.ve_sites.proofs.PlacedLemmas.{Placed, asked, attempted_stays, either_if, if_so, kept_stays, room, told, told_both, with_its_site}
 use Rattle.ve_sites.proofs.sites.Sites.attempt.Goals as goal
@@ -56,4 +56,4 @@ returns-clause-steps g c =
     let s = c.self.inside in
     let p : Placed c.args.self.now s.values s.first.items s.server s.members.items c.args.k c.index_mut.result.now =
     record { holds = c.self.invariant; view = c.self.view_is; inside = c.requires.site; is = c.index_mut.ensures.value } in
-    told p (λ (x : Site). IfErr c.attempt.result g.A.Attempt.is_refusal → c.attempt.new.steps ≤ c.args.steps.now + cost_of_tree x.replica.items + g.A.Attempt.cost c.args.attempt.now x.replica) c.attempt.ensures.steps
+    told p (λ (x : Site). IfErr c.attempt.result g.A.Attempt.is_refusal → c.attempt.new.steps ≤ c.args.steps.now + steps_of_blank + g.A.Attempt.cost c.args.attempt.now x.replica) c.attempt.ensures.steps
