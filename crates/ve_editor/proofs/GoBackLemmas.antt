@@ -1,48 +1,74 @@
 -- A trial's page, and what it can go back to.
-use Rattle.std.proofs.Common.{◌≡◌, ◌≤◌, ◌+◌, ℕ, List, [], ◌++◌, length, take, All, sym, ap, ◌∙◌, subst, length-append, arith}
+use Rattle.std.specs.Option.{option_map_or}
+use Rattle.std.specs.Prelude.{IsSome}
+use Rattle.std.proofs.Common.{◌≡◌, ◌≤◌, ◌+◌, true, false, ℕ, List, [], ◌++◌, length, take, All, Option, Some, None, refl, sym, ap, ◌∙◌, subst, length-append, arith}
 use Rattle.std.proofs.lemmas.List.{take_all, take-append-le}
 use Rattle.std.proofs.Math.Seq.{take-append_seam}
 use Rattle.ve_base.specs.declared.value.Value.{Value}
 use Rattle.model_items.specs.declared.item.Item.{Item}
+use Rattle.model_items.specs.declared.plain_item.PlainItem.{PlainItem}
 use Rattle.model_items.specs.Plain.{CitesWell}
 use Rattle.model_edit.specs.declared.selection.Selection.{Selection}
+use Rattle.ve_arena.specs.declared.node.ArenaNode.{ArenaNode}
+use Rattle.ve_arena.specs.Arena.{first_slots}
 use Rattle.ve_items.specs.ItemList.{ItemList}
-use Rattle.ve_tree.specs.IsTree.{unvalued}
+use Rattle.ve_tree.specs.IsTree.{IsTree, unvalued}
 use Rattle.ve_tree.specs.TreeOf.{IsTreeOf}
+use Rattle.ve_tree.specs.Trials.{begun}
 use Rattle.ve_tree.specs.declared.tree.Tree.{Tree}
 use Rattle.ve_tx.specs.Making.{Extends}
 use Rattle.ve_tx.specs.Spliced.{LieBetween, come_count, spliced_by}
 use Rattle.ve_tx.specs.declared.splice.Splice.{Splice}
 use Rattle.ve_editor.specs.Back.{CanGoBack, LieInTurn, backward}
-use Rattle.ve_editor.specs.Page.{IsPage, linked_page, nodes_of_tree, page_of}
+use Rattle.ve_editor.specs.Page.{IsPage, Nodes, first_nodes, linked_page, nodes_of_tree, page_of}
 use Rattle.ve_editor.specs.Trials.{first_page}
 use Rattle.ve_editor.proofs.ReturnLemmas.{back-again, spliced-append, turn-again, turn-append}
 
+-- ---- the first nodes
+
+slots_stay : (was is : Option (List (Option ArenaNode))) (old new : List (Option ArenaNode)) → IsSome was → is ≡ was → option_map_or (λ slots. slots) is new ≡ option_map_or (λ slots. slots) was old
+slots_stay None is old new trial same = let wrong : false ≡ true = trial in cc
+slots_stay (Some slots) is old new trial same = ap (λ first. option_map_or (λ slots. slots) first new) same
+
+-- while a trial runs, a tree that is written has the first nodes that it had
+pub first_nodes_stay : (was is : Tree) → IsSome was.arena.first → is.arena.first ≡ was.arena.first → is.root ≡ was.root → first_nodes is ≡ first_nodes was
+first_nodes_stay was is trial same root =
+    let slots = slots_stay was.arena.first is.arena.first was.arena.slots is.arena.slots trial same in
+    λ i. record { slots = slots i; root = root i }
+
+-- a trial that begins, or ends with the nodes as they are, leaves the page as it is
+pub page_stays : (store : List Value) (items : List Item) (was is : Tree) (first : Option (List (Option ArenaNode))) → IsPage store items was →
+    is ≡ record was { arena = record { slots = was.arena.slots; first = first } } → IsPage store items is
+page_stays store items was is first page same =
+    subst (IsPage store items) (sym same) (record { cites = page.cites; tree = record { links = page.tree.links; landmarks = page.tree.landmarks } })
+
 -- ---- at the beginning
 
-begun : (store : List Value) (values : ℕ) → values ≡ length store → take values store ≡ store
-begun store values count = ap (λ n. take n store) count ∙ take_all (length store) store (omega arith)
+all_values : (store : List Value) (values : ℕ) → values ≡ length store → take values store ≡ store
+all_values store values count = ap (λ n. take n store) count ∙ take_all (length store) store (omega arith)
 
-pub begins : (store : List Value) (list : ItemList) (linked first : Tree) (back : List Splice) (values : ℕ) → IsPage store list.items linked → IsTreeOf first (unvalued list.items) → back ≡ [] → values ≡ length store →
-    CanGoBack store list back values first
-begins store list linked first back values page tree none count = record {
+pub begins : (store : List Value) (list : ItemList) (was is : Tree) (back : List Splice) (values : ℕ) → IsPage store list.items was → is ≡ record was { arena = begun was.arena.slots } →
+    back ≡ [] → values ≡ length store → CanGoBack store list back values is
+begins store list was is back values page same none count = subst (CanGoBack store list back values) (sym same) (record {
   turn = subst (LieInTurn list.items) (sym none) tt;
   room = let come : come_count back ≡ 0 = ap come_count none in omega arith;
   stored = omega arith;
-  page = subst (λ s. IsPage s (spliced_by list.items back) first) (sym (begun store values count))
-      (subst (λ b. IsPage store (spliced_by list.items b) first) (sym none) (record { cites = page.cites; tree = tree }));
-}
+  cites = subst (λ s. All (CitesWell s) (spliced_by list.items back)) (sym (all_values store values count))
+      (subst (λ b. All (CitesWell store) (spliced_by list.items b)) (sym none) page.cites);
+  trial = refl;
+  tree = subst (λ b. IsTree was.arena.slots was.root (unvalued (spliced_by list.items b))) (sym none) page.tree.links;
+})
 
-pub first_begun : (store : List Value) (items : List Item) (selected : Selection) (linked first : Tree) (back : List Splice) (values : ℕ) → back ≡ [] → values ≡ length store →
-    first.arena ≡ linked.arena → first.root ≡ linked.root → first_page store items back values selected first ≡ linked_page (page_of store items selected) (nodes_of_tree linked)
-first_begun store items selected linked first back values none count slots root =
-    λ i. linked_page (page_of (begun store values count i) (spliced_by items (none i)) selected) (record { slots = slots i; root = root i })
+pub first_begun : (store : List Value) (items : List Item) (selected : Selection) (was is : Tree) (back : List Splice) (values : ℕ) → back ≡ [] → values ≡ length store →
+    is ≡ record was { arena = begun was.arena.slots } → first_page store items back values selected (first_nodes is) ≡ linked_page (page_of store items selected) (nodes_of_tree was)
+first_begun store items selected was is back values none count same =
+    λ i. linked_page (page_of (all_values store values count i) (spliced_by items (none i)) selected) (first_nodes (same i))
 
 -- ---- after a change
 
-module _ (store new : List Value) (list made committed : ItemList) (splices back noted : List Splice) (values : ℕ) (first : Tree) (can : CanGoBack store list back values first) (extends : Extends store new)
+module _ (store new : List Value) (list made committed : ItemList) (splices back noted : List Splice) (values : ℕ) (was is : Tree) (can : CanGoBack store list back values was) (extends : Extends store new)
     (same : made.items ≡ list.items) (within : LieBetween 0 (length made.items) splices) (makes : committed.items ≡ spliced_by made.items splices)
-    (notes : noted ≡ back ++ backward list.items splices) where
+    (notes : noted ≡ back ++ backward list.items splices) (runs : is.arena.first ≡ was.arena.first) (root : is.root ≡ was.root) where
   lies : LieBetween 0 (length list.items) splices
   lies = subst (λ l. LieBetween 0 (length l) splices) same within
 
@@ -59,17 +85,23 @@ module _ (store new : List Value) (list made committed : ItemList) (splices back
   values_back : take values new ≡ take values store
   values_back = ap (take values) extends.1 ∙ take-append-le values store extends.0 can.stored
 
-  pub first_stays : (selected : Selection) → first_page new committed.items noted values selected first ≡ first_page store list.items back values selected first
-  first_stays selected = λ i. linked_page (page_of (values_back i) (list_back i) selected) (nodes_of_tree first)
+  nodes_back : first_nodes is ≡ first_nodes was
+  nodes_back = first_nodes_stay was is can.trial runs root
 
-  pub goes_back : come_count noted + come_count splices ≤ made.spare → made.spare ≤ committed.spare + come_count splices → CanGoBack new committed noted values first
+  pub first_stays : (selected : Selection) → first_page new committed.items noted values selected (first_nodes is) ≡ first_page store list.items back values selected (first_nodes was)
+  first_stays selected = λ i. linked_page (page_of (values_back i) (list_back i) selected) (nodes_back i)
+
+  pub goes_back : come_count noted + come_count splices ≤ made.spare → made.spare ≤ committed.spare + come_count splices → CanGoBack new committed noted values is
   goes_back owed spent = record {
     turn = subst (LieInTurn committed.items) (sym notes) (turn-append committed.items back (backward list.items splices)
         (subst (λ l. LieInTurn l (backward list.items splices)) (sym made_list) (turn-again 0 (length list.items) list.items splices lies (omega arith)))
         (subst (λ l. LieInTurn l back) (sym (ap (λ l. spliced_by l (backward list.items splices)) made_list ∙ back-again 0 (length list.items) list.items splices lies (omega arith))) can.turn));
     room = omega arith;
     stored = let grown : length new ≡ length (store ++ extends.0) = ap length extends.1 in let more = length-append store extends.0 in omega (arith, can.stored);
-    page = subst (λ s. IsPage s (spliced_by committed.items noted) first) (sym values_back) (subst (λ l. IsPage (take values store) l first) (sym list_back) can.page);
+    cites = subst (λ s. All (CitesWell s) (spliced_by committed.items noted)) (sym values_back) (subst (All (CitesWell (take values store))) (sym list_back) can.cites);
+    trial = subst IsSome (sym runs) can.trial;
+    tree = subst (λ (n : Nodes). IsTree n.slots n.root (unvalued (spliced_by committed.items noted))) (sym nodes_back)
+        (subst (λ l. IsTree (first_slots was.arena) was.root (unvalued l)) (sym list_back) can.tree);
   }
 
 -- ---- after a refusal
@@ -87,12 +119,33 @@ page_cut store cut items kept linked cites same list tree = record {
   tree = subst (λ l. IsTreeOf linked (unvalued l)) (sym list) tree;
 }
 
-pub still_goes_back : (store cut : List Value) (list kept : ItemList) (back notes : List Splice) (values : ℕ) (first : Tree) → CanGoBack store list back values first →
-    cut ≡ store → kept.items ≡ list.items → list.spare ≤ kept.spare → notes ≡ back → CanGoBack cut kept notes values first
-still_goes_back store cut list kept back notes values first can same items spare noted = record {
+pub still_goes_back : (store cut : List Value) (list kept : ItemList) (back notes : List Splice) (values : ℕ) (was is : Tree) → CanGoBack store list back values was →
+    cut ≡ store → kept.items ≡ list.items → list.spare ≤ kept.spare → notes ≡ back → is.arena.first ≡ was.arena.first → is.root ≡ was.root → CanGoBack cut kept notes values is
+still_goes_back store cut list kept back notes values was is can same items spare noted runs root = record {
   turn = subst (LieInTurn kept.items) (sym noted) (subst (λ l. LieInTurn l back) (sym items) can.turn);
   room = let come : come_count notes ≡ come_count back = ap come_count noted in omega (arith, can.room);
   stored = let count : length cut ≡ length store = ap length same in omega (arith, can.stored);
-  page = subst (λ s. IsPage (take values s) (spliced_by kept.items notes) first) (sym same)
-      (subst (λ l. IsPage (take values store) (spliced_by l notes) first) (sym items) (subst (λ b. IsPage (take values store) (spliced_by list.items b) first) (sym noted) can.page));
+  cites = subst (λ s. All (CitesWell (take values s)) (spliced_by kept.items notes)) (sym same) (subst (All (CitesWell (take values store))) (sym list_back) can.cites);
+  trial = subst IsSome (sym runs) can.trial;
+  tree = subst (λ (n : Nodes). IsTree n.slots n.root (unvalued (spliced_by kept.items notes))) (sym (first_nodes_stay was is can.trial runs root))
+      (subst (λ l. IsTree (first_slots was.arena) was.root (unvalued l)) (sym list_back) can.tree);
+}
+  where
+    list_back : spliced_by kept.items notes ≡ spliced_by list.items back
+    list_back = λ i. spliced_by (items i) (noted i)
+
+pub first_still : (store cut : List Value) (list kept : ItemList) (back notes : List Splice) (values : ℕ) (selected : Selection) (was is : Tree) → CanGoBack store list back values was →
+    cut ≡ store → kept.items ≡ list.items → notes ≡ back → is.arena.first ≡ was.arena.first → is.root ≡ was.root →
+    first_page cut kept.items notes values selected (first_nodes is) ≡ first_page store list.items back values selected (first_nodes was)
+first_still store cut list kept back notes values selected was is can same items noted runs root =
+    λ i. first_page (same i) (items i) (noted i) values selected (first_nodes_stay was is can.trial runs root i)
+
+-- ---- at the end
+
+-- the page, with the nodes as they were
+pub page_back : (store cut : List Value) (list : ItemList) (items : List Item) (back : List Splice) (values : ℕ) (was is : Tree) → CanGoBack store list back values was →
+    cut ≡ take values store → items ≡ spliced_by list.items back → ((l : List PlainItem) → IsTree (first_slots was.arena) was.root l → IsTreeOf is l) → IsPage cut items is
+page_back store cut list items back values was is can cuts made tree = record {
+  cites = subst (λ s. All (CitesWell s) items) (sym cuts) (subst (All (CitesWell (take values store))) (sym made) can.cites);
+  tree = subst (λ l. IsTreeOf is (unvalued l)) (sym made) (tree (unvalued (spliced_by list.items back)) can.tree);
 }

@@ -10,7 +10,7 @@ pub mod RemovedLemmas
 pub mod OtherLemmas
 pub mod AdmitLemmas
 pub mod StayLemmas
-pub mod TrialLemmas
+mod TrialLemmas
 pub mod ReturnLemmas
 pub mod NoteLemmas
 pub mod AllowedLemmas

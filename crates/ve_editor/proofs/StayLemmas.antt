@@ -35,13 +35,13 @@ use Rattle.ve_editor.proofs.RelinkLemmas.{list_alike}
 
 -- what a repair says for every list of values, over these
 pub numbers_stay : (values : List Value) (tx : List Operation) (items : List Item) (old new : Tree) → new.root ≡ old.root →
-    KeepsNumbers old.arena new.arena old.root tx items → NumbersStay (by_value values tx) (plain_list values items) (nodes_of_tree old) (nodes_of_tree new)
+    KeepsNumbers old.arena.slots new.arena.slots old.root tx items → NumbersStay (by_value values tx) (plain_list values items) (nodes_of_tree old) (nodes_of_tree new)
 numbers_stay values tx items old new e keeps =
-    subst (λ r. NumbersStay (by_value values tx) (plain_list values items) (nodes_of_tree old) (record { slots = new.arena; root = r })) (sym e) (keeps values)
+    subst (λ r. NumbersStay (by_value values tx) (plain_list values items) (nodes_of_tree old) (record { slots = new.arena.slots; root = r })) (sym e) (keeps values)
 
 -- a draft's items cite values after the store's; those of the page don't
 pub numbers_drafted : (store : List Value) (d : Draft) (items : List Item) → All (CitesWell store) items → (old new : Tree) → new.root ≡ old.root →
-    KeepsNumbers old.arena new.arena old.root d.tx items → NumbersStay (drafted store d) (plain_list store items) (nodes_of_tree old) (nodes_of_tree new)
+    KeepsNumbers old.arena.slots new.arena.slots old.root d.tx items → NumbersStay (drafted store d) (plain_list store items) (nodes_of_tree old) (nodes_of_tree new)
 numbers_drafted store d items cites old new e keeps =
     subst (λ l. NumbersStay (drafted store d) l (nodes_of_tree old) (nodes_of_tree new)) (list-extended store (drafted_values store d) (d.values.values, refl) items cites)
     (numbers_stay (drafted_values store d) d.tx items old new e keeps)
@@ -52,12 +52,12 @@ numbers_as t u items others old new e f stay = subst (λ l. NumbersStay u l old 
 
 -- ---- the tree of a list by value
 
-pub tree_by_value : (store : List Value) (items : List Item) (linked : Tree) → IsTreeOf linked (unvalued items) → IsTree linked.arena linked.root (plain_list store items)
+pub tree_by_value : (store : List Value) (items : List Item) (linked : Tree) → IsTreeOf linked (unvalued items) → IsTree linked.arena.slots linked.root (plain_list store items)
 tree_by_value store items linked tree = (shapes_read linked (unvalued items) (plain_list store items) tree (list_alike [] store items)).links
 
 -- that of the list that a change made
 pub committed_tree : (t : Transaction) (old new : List Value) (list : ItemList) (linked : Tree) (change : Change) (committed : List Item) → WillBe t old new list linked change →
-    committed ≡ spliced_by list.items change.splices.items → IsTree linked.arena linked.root (plain_list new committed)
+    committed ≡ spliced_by list.items change.splices.items → IsTree linked.arena.slots linked.root (plain_list new committed)
 committed_tree t old new list linked change committed will made =
     tree_by_value new committed linked (subst (λ l. IsTreeOf linked (unvalued l)) (sym made) will.tree)
 
@@ -137,12 +137,12 @@ unchanged_as old new e = record {
 
 -- the store had taken values, which are cut off again
 pub unchanged_cut : (old : LinkedPage) (store new cut : List Value) (n : ℕ) (items list : List Item) (selected : Selection) (was is : Tree) →
-    linked_page (page_of store items selected) (nodes_of_tree was) ≡ old → Extends store new → n ≡ length store → cut ≡ take n new → list ≡ items → SameNodes was.arena is.arena → is.root ≡ was.root →
+    linked_page (page_of store items selected) (nodes_of_tree was) ≡ old → Extends store new → n ≡ length store → cut ≡ take n new → list ≡ items → SameNodes was.arena.slots is.arena.slots → is.root ≡ was.root →
     IsUnchanged old (linked_page (page_of cut list selected) (nodes_of_tree is))
 unchanged_cut old store new cut n items list selected was is view extends count cuts same nodes root =
     let whole : cut ≡ store = cuts ∙ ap (λ k. take k new) count ∙ ap (take (length store)) extends.1 ∙ take-append_seam store extends.0 in
     record {
       page = (λ i. record { items = plain_list (whole i) (same i); store = whole i; selection = selected }) ∙ ap replica_of view;
-      nodes = subst (λ (p : LinkedPage). SameNodes p.nodes.slots is.arena) view nodes;
+      nodes = subst (λ (p : LinkedPage). SameNodes p.nodes.slots is.arena.slots) view nodes;
       root = root ∙ ap (λ (p : LinkedPage). p.nodes.root) view;
     }

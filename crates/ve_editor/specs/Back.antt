@@ -1,12 +1,14 @@
 -- What takes a list back to what it was before splices of it.
-use Rattle.std.specs.Prelude.{ℕ, ◌+◌, ◌≤◌, List, [], ◌∷◌, ◌++◌, length, slice_range, take}
+use Rattle.std.specs.Prelude.{ℕ, ◌+◌, ◌≤◌, List, [], ◌∷◌, ◌++◌, All, IsSome, length, slice_range, take}
 use Rattle.ve_base.specs.declared.value.Value.{Value}
 use Rattle.model_items.specs.declared.item.Item.{Item}
+use Rattle.model_items.specs.Plain.{CitesWell}
+use Rattle.ve_arena.specs.Arena.{first_slots}
 use Rattle.ve_items.specs.ItemList.{ItemList}
+use Rattle.ve_tree.specs.IsTree.{IsTree, unvalued}
 use Rattle.ve_tree.specs.declared.tree.Tree.{Tree}
 use Rattle.ve_tx.specs.Spliced.{come_count, spliced_by}
 use Rattle.ve_tx.specs.declared.splice.Splice.{Splice}
-use Rattle.ve_editor.specs.Page.{IsPage}
 
 -- the splice that undoes a splice of a list
 abbrev pub undoing : List Item → Splice → Splice
@@ -24,9 +26,12 @@ LieInTurn items [] = Unit {0}
 LieInTurn items (splice ∷ more) = LieInTurn items more × (splice.at + splice.removed ≤ length (spliced_by items more))
 
 -- A page can go back, without memory, to what these splices make of its list, over the first values
--- of its store: there is room for them, and this is the tree of what they make.
-pub record CanGoBack (store : List Value) (list : ItemList) (back : List Splice) (values : ℕ) (first : Tree) : Type 0 where
+-- of its store: there is room for them, and what they make cites those values. A trial runs in the
+-- tree, and the nodes that were there when it began are the tree of what they make.
+pub record CanGoBack (store : List Value) (list : ItemList) (back : List Splice) (values : ℕ) (linked : Tree) : Type 0 where
   pub turn : LieInTurn list.items back
   pub room : come_count back ≤ list.spare
   pub stored : values ≤ length store
-  pub page : IsPage (take values store) (spliced_by list.items back) first
+  pub cites : All (CitesWell (take values store)) (spliced_by list.items back)
+  pub trial : IsSome linked.arena.first
+  pub tree : IsTree (first_slots linked.arena) linked.root (unvalued (spliced_by list.items back))

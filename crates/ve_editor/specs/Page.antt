@@ -6,6 +6,7 @@ use Rattle.model_items.specs.declared.plain_item.PlainItem.{PlainItem}
 use Rattle.model_items.specs.Plain.{plain_list, CitesWell}
 use Rattle.model_edit.specs.declared.selection.Selection.{Selection}
 use Rattle.model_site.specs.Replica.{Replica}
+use Rattle.ve_arena.specs.Arena.{first_slots}
 use Rattle.ve_arena.specs.declared.node.ArenaNode.{ArenaNode}
 use Rattle.ve_arena.specs.declared.node.NodeId.{NodeId}
 use Rattle.ve_tree.specs.IsTree.{unvalued}
@@ -29,7 +30,11 @@ pub record Nodes : Type 0 where
 
 -- the nodes of a tree
 abbrev pub nodes_of_tree : Tree → Nodes
-nodes_of_tree t = record { slots = t.arena; root = t.root }
+nodes_of_tree t = record { slots = t.arena.slots; root = t.root }
+
+-- the nodes that a tree had when its trial began; without a trial those that it has
+abbrev pub first_nodes : Tree → Nodes
+first_nodes t = record { slots = first_slots t.arena; root = t.root }
 
 -- The view of an editor: what a site's replica has, and the nodes of its tree.
 pub record LinkedPage : Type 0 where

@@ -7,12 +7,11 @@ use Rattle.model_edit.specs.declared.selection.Selection.{Selection}
 use Rattle.model_site.specs.Entries.{entry_of}
 use Rattle.model_site.specs.Replica.{all_performed}
 use Rattle.model_site_law.specs.Sound.{AllMayRun}
-use Rattle.ve_tree.specs.declared.tree.Tree.{Tree}
 use Rattle.ve_tx.specs.Spliced.{spliced_by}
 use Rattle.ve_tx.specs.declared.entry.Entry.{Entry}
 use Rattle.ve_tx.specs.declared.splice.Splice.{Splice}
 use Rattle.ve_editor.specs.Edited.{entry_by_value, EntryCites}
-use Rattle.ve_editor.specs.Page.{LinkedPage, linked_page, nodes_of_tree, page_of, replica_of}
+use Rattle.ve_editor.specs.Page.{LinkedPage, Nodes, linked_page, page_of, replica_of}
 use Rattle.ve_editor.specs.Stays.{NumbersStayOver}
 
 -- The view of a trial: its page, and what the page was when it began.
@@ -20,9 +19,10 @@ pub record Tried : Type 0 where
   pub page : LinkedPage
   pub first : LinkedPage
 
--- what a page was: these splices take its list back, and it had so many of the values
-abbrev pub first_page : List Value → List Item → List Splice → ℕ → Selection → Tree → LinkedPage
-first_page store items back values selected linked = linked_page (page_of (take values store) (spliced_by items back) selected) (nodes_of_tree linked)
+-- what a page was: these splices take its list back, and it had so many of the values, and these
+-- nodes
+abbrev pub first_page : List Value → List Item → List Splice → ℕ → Selection → Nodes → LinkedPage
+first_page store items back values selected nodes = linked_page (page_of (take values store) (spliced_by items back) selected) nodes
 
 -- Transactions that are asked for, performed one after the other on a page, give this page and this
 -- entry, and nodes that stay over each of them keep their numbers.

@@ -1,9 +1,8 @@
 // Several changes of a page, all of them or none.
 ghost use Rattle.std.specs.Prelude.{◌≡◌, ◌≤◌, ◌+◌, ℕ, List, IfOk, IfErr, OnErr};
 ghost use Rattle.model_change.specs.Transaction.{Transaction};
-ghost use Rattle.model_items.specs.Cost.{cost_of_tree};
-ghost use Rattle.model_items.specs.Tree.{number_of_nodes};
 ghost use Rattle.model_site.specs.Replica.{Replica};
+ghost use Rattle.ve_editor.specs.Counted.{steps_of_blank};
 ghost use Rattle.ve_editor.specs.Page.{replica_of};
 ghost use Rattle.ve_editor.specs.Trials.{IsMade};
 
@@ -72,10 +71,9 @@ fn tried<A: Attempt, L: Ledger>(
     ensures kept { OnErr result.1 (result.0 ≡ editor) }
     ensures counted { steps.old ≤ steps.new }
     ensures steps { IfErr result.1 A.is_refusal
-        → steps.new
-        ≤ steps.old + number_of_nodes editor.items + A.cost attempt.now (replica_of editor) }
+        → steps.new ≤ steps.old + A.cost attempt.now (replica_of editor) }
 {
-    match Trial::begin(editor, steps) {
+    match Trial::begin(editor) {
         Ok(mut trial) => match attempt.run(&mut trial, steps) {
             Ok(made) => (trial.keep(), Ok(made)),
             Err(stop) => (trial.take_back(), Err(stop)),
@@ -89,7 +87,7 @@ impl Editor {
     /// `Err` changes nothing: what was made until then is taken back. Nodes that stay over each of
     /// the transactions keep their numbers.
     ///
-    /// The steps are those of the changes, of one copy of the tree, and of a page without text.
+    /// The steps are those of the changes, and of a page without text.
     pub fn attempt<A: Attempt, L: Ledger>(
         &mut self,
         attempt: &A,
@@ -103,8 +101,7 @@ impl Editor {
         ensures kept { OnErr result (self.new ≡ self.old) }
         ensures counted { steps.old ≤ steps.new }
         ensures steps { IfErr result A.is_refusal
-            → steps.new
-            ≤ steps.old + cost_of_tree self.old.items + A.cost attempt.now (replica_of self.old) }
+            → steps.new ≤ steps.old + steps_of_blank + A.cost attempt.now (replica_of self.old) }
     {
         let Ok(blank) = Editor::blank(self.alloc, steps) else {
             return Err(attempt.no_memory());

@@ -60,13 +60,14 @@ const NO_TEXT: [Item; 2] = [
 ];
 
 impl Model for Editor {
+    ghost use Rattle.std.specs.Prelude.{◌≡◌, None};
     ghost use Rattle.ve_editor.specs.Page.{IsPage, LinkedPage, linked_page, nodes_of_tree, page_of};
 
     ghost Value = { LinkedPage };
 
     ghost view = { λ e. linked_page (page_of e.store e.list.items e.selection) (nodes_of_tree e.tree) };
 
-    ghost invariant = { λ e. IsPage e.store e.list.items e.tree };
+    ghost invariant = { λ e. IsPage e.store e.list.items e.tree × (e.tree.arena.first ≡ None) };
 }
 
 impl Editor {
@@ -76,7 +77,7 @@ impl Editor {
     ghost use Rattle.ve_tx.specs.ByValue.{parcel_by_value, ParcelCites};
     ghost use Rattle.ve_editor.specs.Refusal.{IsEditRefusal};
     ghost use Rattle.model_change.specs.Cost.{cost_of_transaction, cost_of_transactions};
-    ghost use Rattle.ve_editor.specs.Counted.{steps_over};
+    ghost use Rattle.ve_editor.specs.Counted.{steps_of_blank, steps_over};
 
     /// An editor of a lawful list whose items cite values of the store, with the selection at the
     /// start. Its tree is built, in at most six steps for each node and two more.
@@ -132,7 +133,7 @@ impl Editor {
     /// out.
     pub(crate) fn blank<L: Ledger>(alloc: Global, steps: &mut Steps<L>) -> Result<Editor, Memory>
         ensures counted { steps.old ≤ steps.new }
-        ensures steps { steps.new ≤ steps.old + 8 }
+        ensures steps { steps.new ≤ steps.old + steps_of_blank }
     {
         let mut list = Linear::new(alloc);
         list.extend(&NO_TEXT)?;

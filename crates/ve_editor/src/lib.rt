@@ -13,7 +13,7 @@
 //! the refusal of `edit_cause`. `admit` is `all_performed` of another's parcel, with the entry
 //! `entry_against` what the parcel takes back; `revert` is `reverted`. The type keeps that the list
 //! is lawful, and that the tree is the list's. Each value that is cited is in the store and of the
-//! right sort (`IsPage`).
+//! right sort (`IsPage`). No trial runs in the tree of an editor.
 //!
 //! The tree becomes that of the new list as the last step that may fail, before the list itself
 //! changes (`ve_repair::relink`); after it the list takes no memory. At want of memory the list,
@@ -25,9 +25,11 @@
 //! (`IsUnchanged`).
 //!
 //! Changes that are to be made all or none are an `Attempt`: `Editor::attempt` makes them in place,
-//! on a `Trial` of the page, and takes them back where one of them stops. A trial copies the tree's
-//! nodes alone, one step each. Of the list it notes what each change takes out, and has it keep room
-//! for that; the store only grows meanwhile, and is cut. So going back takes no memory.
+//! on a `Trial` of the page, and takes them back where one of them stops. A trial copies nothing and
+//! takes no step of its own. The tree can go back to the nodes that it had. Of the list it is noted
+//! what each change takes out, and the list keeps room for that; the store only grows meanwhile, and
+//! is cut. So going back takes no memory. An attempt takes the steps of its changes, and at most
+//! eight more, which make a page without text.
 //!
 //! Definitions, in reading order: `Page` (the invariant of the type and its view), `Stays` (which
 //! nodes keep their numbers), `Edited` (drafts and entries by value; what may be performed or taken

@@ -63,7 +63,8 @@ pub fn ready_on_trial<L: Ledger>(
     requires draft { IsDraftOf store.old draft.now }
     ensures ok { IfOk result (MayPerform draft.now store.old store.new list.new tree.new) }
     ensures numbers { OnOk result (
-        KeepsNumbers tree.old.arena tree.new.arena tree.old.root draft.now.tx list.old.items) }
+        KeepsNumbers tree.old.arena.slots tree.new.arena.slots tree.old.root draft.now.tx
+        list.old.items) }
     ensures notes { IfOk result (λ ready.
         back.new ≡ back.old ++ backward list.old.items ready.change.splices.items) }
     ensures owed { IfOk result (λ ready.
@@ -75,7 +76,8 @@ pub fn ready_on_trial<L: Ledger>(
         page_of store.old list.old.items (between 0 0)))) }
     ensures root { tree.new.root ≡ tree.old.root }
     ensures kept { OnErr result (IsTreeOf tree.new (unvalued list.old.items)) }
-    ensures same { OnErr result (SameNodes tree.old.arena tree.new.arena) }
+    ensures same { OnErr result (SameNodes tree.old.arena.slots tree.new.arena.slots) }
+    ensures first { tree.new.arena.first ≡ tree.old.arena.first }
     ensures items { list.new.items ≡ list.old.items }
     ensures spare { list.old.spare ≤ list.new.spare }
     ensures extends { Extends store.old store.new }

@@ -123,10 +123,12 @@ pub fn with_entry<L: Ledger>(
     ensures change { IfOk result (λ ready. ready.change ≡ change) }
     ensures tree { OnOk result (IsTreeOfAfter tree.new tx.now list.now.items) }
     ensures numbers { OnOk result (
-        KeepsNumbers tree.old.arena tree.new.arena tree.old.root tx.now list.now.items) }
+        KeepsNumbers tree.old.arena.slots tree.new.arena.slots tree.old.root tx.now
+        list.now.items) }
     ensures root { tree.new.root ≡ tree.old.root }
     ensures kept { OnErr result (IsTreeOf tree.new (unvalued list.now.items)) }
-    ensures same { OnErr result (SameNodes tree.old.arena tree.new.arena) }
+    ensures same { OnErr result (SameNodes tree.old.arena.slots tree.new.arena.slots) }
+    ensures first { tree.new.arena.first ≡ tree.old.arena.first }
     ensures counted { steps.old ≤ steps.new }
     ensures steps { IsWithinTouch steps.old steps.new tx.now list.now.items }
 {
@@ -151,14 +153,16 @@ pub fn ready<L: Ledger>(
     requires draft { IsDraftOf store.old draft.now }
     ensures ok { IfOk result (MayPerform draft.now store.old store.new list.new tree.new) }
     ensures numbers { OnOk result (
-        KeepsNumbers tree.old.arena tree.new.arena tree.old.root draft.now.tx list.old.items) }
+        KeepsNumbers tree.old.arena.slots tree.new.arena.slots tree.old.root draft.now.tx
+        list.old.items) }
     ensures refused { IfErr result (
         IsEditRefusal (
         edit_cause (drafted store.old draft.now) (
         page_of store.old list.old.items (between 0 0)))) }
     ensures root { tree.new.root ≡ tree.old.root }
     ensures kept { OnErr result (IsTreeOf tree.new (unvalued list.old.items)) }
-    ensures same { OnErr result (SameNodes tree.old.arena tree.new.arena) }
+    ensures same { OnErr result (SameNodes tree.old.arena.slots tree.new.arena.slots) }
+    ensures first { tree.new.arena.first ≡ tree.old.arena.first }
     ensures items { list.new.items ≡ list.old.items }
     ensures extends { Extends store.old store.new }
     ensures counted { steps.old ≤ steps.new }
@@ -198,10 +202,12 @@ pub fn ready_back<L: Ledger>(
     ensures ok { IfOk result (
         IsReadyBack (by_value store.old tx.now) store.old store.new list.new tree.new) }
     ensures numbers { OnOk result (
-        KeepsNumbers tree.old.arena tree.new.arena tree.old.root tx.now list.old.items) }
+        KeepsNumbers tree.old.arena.slots tree.new.arena.slots tree.old.root tx.now
+        list.old.items) }
     ensures root { tree.new.root ≡ tree.old.root }
     ensures kept { OnErr result (IsTreeOf tree.new (unvalued list.old.items)) }
-    ensures same { OnErr result (SameNodes tree.old.arena tree.new.arena) }
+    ensures same { OnErr result (SameNodes tree.old.arena.slots tree.new.arena.slots) }
+    ensures first { tree.new.arena.first ≡ tree.old.arena.first }
     ensures items { list.new.items ≡ list.old.items }
     ensures extends { Extends store.old store.new }
     ensures counted { steps.old ≤ steps.new }
@@ -243,7 +249,8 @@ pub fn ready_other<L: Ledger>(
         (nodes_of_tree tree.old) (nodes_of_tree tree.new)) }
     ensures root { tree.new.root ≡ tree.old.root }
     ensures kept { OnErr result (IsTreeOf tree.new (unvalued list.old.items)) }
-    ensures same { OnErr result (SameNodes tree.old.arena tree.new.arena) }
+    ensures same { OnErr result (SameNodes tree.old.arena.slots tree.new.arena.slots) }
+    ensures first { tree.new.arena.first ≡ tree.old.arena.first }
     ensures items { list.new.items ≡ list.old.items }
     ensures extends { Extends store.old store.new }
     ensures counted { steps.old ≤ steps.new }

@@ -32,10 +32,12 @@ pub fn prepare<L: Ledger>(
     requires lawful { LawfulAfter tx.now list.now.items }
     ensures tree { OnOk result (IsTreeOfAfter tree.new tx.now list.now.items) }
     ensures numbers { OnOk result (
-        KeepsNumbers tree.old.arena tree.new.arena tree.old.root tx.now list.now.items) }
+        KeepsNumbers tree.old.arena.slots tree.new.arena.slots tree.old.root tx.now
+        list.now.items) }
     ensures root { tree.new.root ≡ tree.old.root }
     ensures kept { OnErr result (IsTreeOf tree.new (unvalued list.now.items)) }
-    ensures same { OnErr result (SameNodes tree.old.arena tree.new.arena) }
+    ensures same { OnErr result (SameNodes tree.old.arena.slots tree.new.arena.slots) }
+    ensures first { tree.new.arena.first ≡ tree.old.arena.first }
     ensures counted { steps.old ≤ steps.new }
     ensures steps { IsWithinTouch steps.old steps.new tx.now list.now.items }
 {

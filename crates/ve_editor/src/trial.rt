@@ -2,7 +2,6 @@
 ghost use Rattle.std.specs.Prelude.{◌≡◌, ◌≢◌, ◌≤◌, ◌+◌, ◌∷◌, [], None, IfOk, IfErr, OnOk, OnErr};
 ghost use Rattle.model_change.specs.Cost.{cost_of_transaction};
 ghost use Rattle.model_items.specs.Plain.{plain_list};
-ghost use Rattle.model_items.specs.Tree.{number_of_nodes};
 ghost use Rattle.model_site.specs.Entries.{entry_of};
 ghost use Rattle.model_site.specs.Refused.{edit_cause};
 ghost use Rattle.model_site.specs.Replica.{performed};
@@ -29,8 +28,8 @@ use ve_tx::{Draft, Entry};
 /// first of them. Going back takes no memory, so it never fails. The view is the page as it is, and
 /// as it was.
 ///
-/// It keeps a copy of the tree that was, how many values there were, and the splices that take the
-/// list back, for which the list has room.
+/// A trial runs in its tree, which can go back to the nodes that it had. It keeps how many values
+/// there were, and the splices that take the list back, for which the list has room.
 pub struct Trial {
     list: Linear,
     store: Store,
@@ -39,7 +38,6 @@ pub struct Trial {
     alloc: Global,
     back: Back,
     values: usize,
-    first_tree: Tree,
     first_selection: Selection,
 }
 
@@ -53,31 +51,30 @@ impl Drop for Trial {
             alloc: _,
             back,
             values: _,
-            first_tree,
             first_selection: _,
         } = self;
         drop(list);
         drop(store);
         drop(tree);
         drop(back);
-        drop(first_tree);
     }
 }
 
 impl Model for Trial {
     ghost use Rattle.ve_editor.specs.Back.{CanGoBack};
-    ghost use Rattle.ve_editor.specs.Page.{IsPage, linked_page, nodes_of_tree, page_of};
+    ghost use Rattle.ve_editor.specs.Page.{IsPage, first_nodes, linked_page, nodes_of_tree, page_of};
     ghost use Rattle.ve_editor.specs.Trials.{Tried, first_page};
 
     ghost Value = { Tried };
 
     ghost view = { λ t. record {
       page = linked_page (page_of t.store t.list.items t.selection) (nodes_of_tree t.tree);
-      first = first_page t.store t.list.items t.back t.values t.first_selection t.first_tree;
+      first = first_page t.store t.list.items t.back t.values t.first_selection
+          (first_nodes t.tree);
     } };
 
     ghost invariant = { λ t. IsPage t.store t.list.items t.tree
-        × CanGoBack t.store t.list t.back t.values t.first_tree };
+        × CanGoBack t.store t.list t.back t.values t.tree };
 }
 
 impl Trial {
@@ -86,22 +83,21 @@ impl Trial {
     ghost use Rattle.ve_editor.specs.Refusal.{IsEditRefusal};
     ghost use Rattle.ve_editor.specs.Stays.{IsUnchanged, NumbersStay};
 
-    /// A trial of an editor's page. Where there is no memory for it, the editor is given back. Each
-    /// node of the tree is copied and counts one step, also where there is no memory.
-    pub fn begin<L: Ledger>(editor: Editor, steps: &mut Steps<L>) -> Result<Trial, Editor>
+    /// A trial of an editor's page. Nothing is copied, and it takes no step. Where there is no
+    /// memory for it, the editor is given back.
+    pub fn begin(editor: Editor) -> Result<Trial, Editor>
         ensures ok { IfOk result (λ trial. trial ≡ record { page = editor; first = editor }) }
         ensures err { IfErr result (λ back. back ≡ editor) }
-        ensures step_a_node { steps.new ≡ steps.old + number_of_nodes editor.items }
     {
-        match editor.tree.copy(editor.alloc, steps) {
-            Ok(first_tree) => {
-                let Editor {
-                    list,
-                    store,
-                    tree,
-                    selection,
-                    alloc,
-                } = editor;
+        let Editor {
+            list,
+            store,
+            mut tree,
+            selection,
+            alloc,
+        } = editor;
+        match tree.begin_trial() {
+            Ok(()) => {
                 let values = store.len();
                 Ok(Trial {
                     list,
@@ -111,11 +107,16 @@ impl Trial {
                     alloc,
                     back: Back::new(alloc),
                     values,
-                    first_tree,
                     first_selection: selection,
                 })
             }
-            Err(Memory) => Err(editor),
+            Err(Memory) => Err(Editor {
+                list,
+                store,
+                tree,
+                selection,
+                alloc,
+            }),
         }
     }
 
@@ -212,16 +213,15 @@ impl Trial {
         let Trial {
             list,
             store,
-            tree,
+            mut tree,
             selection,
             alloc,
             back,
             values: _,
-            first_tree,
             first_selection: _,
         } = self;
         drop(back);
-        drop(first_tree);
+        tree.keep();
         Editor {
             list,
             store,
@@ -238,22 +238,21 @@ impl Trial {
         let Trial {
             mut list,
             mut store,
-            tree,
+            mut tree,
             selection: _,
             alloc,
             back,
             values,
-            first_tree,
             first_selection,
         } = self;
         back.put_back(&mut list);
         store.truncate(values);
         drop(back);
-        drop(tree);
+        tree.take_back();
         Editor {
             list,
             store,
-            tree: first_tree,
+            tree,
             selection: first_selection,
             alloc,
         }

@@ -52,10 +52,10 @@ fn finished() -> State
 fn enter_round(state: &mut State, doc: Doc<'_>, n: NodeId, levels: usize)
     requires doc { IsDoc doc }
     requires start { state.old ≡ law.start }
-    requires round { IsRoundSome doc.tree.now.arena doc.tree.now.root (unvalued doc.list.now.items)
-        n levels }
-    ensures { IsStateRound doc.entry.tree.now.arena doc.entry.tree.now.root doc.entry.list.now.items
-        n state.new }
+    requires round { IsRoundSome doc.tree.now.arena.slots doc.tree.now.root
+        (unvalued doc.list.now.items) n levels }
+    ensures { IsStateRound doc.entry.tree.now.arena.slots doc.entry.tree.now.root
+        doc.entry.list.now.items n state.new }
 {
     if n.0 == doc.tree.root.0 {
         return;

@@ -90,7 +90,7 @@ refused_as_whole committed entries clash e =
 
 -- ---- entries of as many transactions each
 
-parted_alike : (xs ys more others : List Transaction) → length xs ≡ length ys → xs ++ more ≡ ys ++ others → (xs ≡ ys) × (more ≡ others)
+pub parted_alike : (xs ys more others : List Transaction) → length xs ≡ length ys → xs ++ more ≡ ys ++ others → (xs ≡ ys) × (more ≡ others)
 parted_alike [] [] more others n e = (refl, e)
 parted_alike [] (y ∷ ys) more others n e = absurd (cc)
 parted_alike (x ∷ xs) [] more others n e = absurd (cc)

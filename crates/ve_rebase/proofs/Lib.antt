@@ -1,5 +1,4 @@
 pub mod SpanLemmas
-pub mod ApartLemmas
 pub mod ReadLemmas
 pub mod PlaceLemmas
 pub mod ConflictLemmas
@@ -8,6 +7,7 @@ pub mod LengthLemmas
 pub mod ShiftedLemmas
 pub mod RangeLemmas
 pub mod RowLemmas
+pub mod ColumnLemmas
 pub mod WrittenLemmas
 pub mod NormalLemmas
 pub mod EntryLemmas

@@ -1,9 +1,10 @@
 -- A site's transactions moved over entries of other sites, one after the other.
 use Rattle.std.proofs.Common.{◌≡◌, ◌≤◌, ◌<◌, ℕ, zero, suc, ◌+◌, List, [], ◌∷◌, ◌++◌, length, map, take, drop, get_or, slice_get, replicate, All, Some, None, Result, Ok, Err, refl, sym, ap, subst, ◌∙◌, arith}
-use Rattle.std.proofs.lemmas.List.{append-nil, map-append, take_more, take_all, drop_all, length-map, length-take-le}
+use Rattle.std.proofs.lemmas.List.{append-nil, map-append, take-append-drop, drop-drop, take_more, take_all, drop_all, length-map, length-take-le}
+use Rattle.std.proofs.Math.Seq.{take-add}
 use Rattle.std.proofs.lemmas.List.Concat.{flat_map-append}
 use Rattle.std.proofs.lemmas.List.Folds.{flat_map-map}
-use Rattle.std.proofs.lemmas.List.Elements.{All-nil, All-cons, All-append, All-get_or}
+use Rattle.std.proofs.lemmas.List.Elements.{All-nil, All-cons, All-append, All-get_or, All-take, All-drop}
 use Rattle.std.proofs.lemmas.Option.{slice_get_past}
 use Rattle.ve_base.specs.declared.value.Value.{Value}
 use Rattle.model_change.specs.Transaction.{Transaction}
@@ -20,12 +21,13 @@ use Rattle.ve_rebase.specs.Lists.{RunOnLength, RunFromOneLength, IsRefusedAs}
 use Rattle.ve_rebase.specs.Shifted.{IsShifted, FollowFrom, shifted_by_value, all_by_value, operations, StartTogether, AreRows, AreWritten}
 use Rattle.ve_rebase.specs.Until.{length_given}
 use Rattle.ve_rebase.specs.Under.{all_over, over_values, AreAllUnder}
-use Rattle.ve_rebase.specs.Moved.{all_operations, AreBegun, AreMovedOver, AreWrittenInto, IsMovedOver, IsMoveRefused, IsWrittenInto, MeetMoved, WereMoved}
+use Rattle.ve_rebase.specs.Moved.{all_operations, AreBegun, AreMoved, AreMovedOver, AreWrittenInto, IsMovedOver, IsMoveRefused, IsWrittenInto, MeetMoved, WereMoved}
 use Rattle.ve_rebase.proofs.RowLemmas.{length-map-same}
-use Rattle.ve_rebase.proofs.WrittenLemmas.{written_alike, written_mine, follows}
-use Rattle.ve_rebase.proofs.EntryLemmas.{here, same_outline, GatheredSoFar, gathered_more, PartedSoFar, parted_begun, part_within, part_kept, part_shifted, parted_next, parted_done}
-use Rattle.ve_rebase.proofs.UntilLemmas.{length_alike, run_parted}
+use Rattle.ve_rebase.proofs.WrittenLemmas.{written_alike, written_mine, each_follows, follows}
+use Rattle.ve_rebase.proofs.EntryLemmas.{values_of, parcels_each, written_parcels, here, same_outline, GatheredSoFar, gathered_more, PartedSoFar, parted_begun, part_within, part_kept, part_shifted, parted_next, parted_done}
+use Rattle.ve_rebase.proofs.UntilLemmas.{length_alike, length_each, run_parted}
 use Rattle.ve_rebase.proofs.UnderLemmas.{over_get}
+use Rattle.ve_rebase.proofs.ColumnLemmas.{moved_at_once, moved_both}
 use Rattle.ve_rebase.proofs.GroupLemmas.{all_of, moved_more, all_joined, refused_as_whole}
 
 -- ---- one entry of another
@@ -191,6 +193,51 @@ moved_done foreign mine now committed i so_far end =
     let past : slice_get foreign n ≡ None = slice_get_past foreign n (omega arith) in
     absurd (cc))
 
+-- ---- several entries at once
+
+module _ (foreign : List Parcel) (mine now : List Shifted) (committed : List Parcel) (i n : ℕ) (so_far : MovedSoFar foreign mine now committed i) where
+  abbrev part : List Parcel
+  part = take n (drop i foreign)
+
+  abbrev after_part : List Parcel
+  after_part = drop n (drop i foreign)
+
+  meet_parted : MeetMoved (parcels_by_value part ++ parcels_by_value after_part) now
+  meet_parted =
+      subst (λ ps. MeetMoved ps now) (ap parcels_by_value (sym (take-append-drop n (drop i foreign))) ∙ flat_map-append parcel_by_value part after_part) so_far.meet
+
+  pub some_meet : MeetMoved (parcels_by_value part) now
+  some_meet = record {
+    size = meet_parted.size;
+    foreign_run = (run_parted meet_parted.size (parcels_by_value part) (parcels_by_value after_part) meet_parted.foreign_run).0;
+    mine_follow = meet_parted.mine_follow;
+  }
+
+  pub moved_some : (after : List Shifted) (some : List Parcel) → AreMoved part now after some → MovedSoFar foreign mine after (committed ++ some) (i + n)
+  moved_some after some h =
+      let run = run_parted meet_parted.size (parcels_by_value part) (parcels_by_value after_part) meet_parted.foreign_run in
+      let taken : take (i + n) foreign ≡ take i foreign ++ part = take-add i n foreign in
+      record {
+        shifted = h.shifted;
+        kept = h.kept ∙ so_far.kept;
+        meet = subst (λ ps. MeetMoved (parcels_by_value ps) after) (drop-drop n i foreign) (record {
+          size = length_given meet_parted.size (parcels_by_value part);
+          foreign_run = run.1;
+          mine_follow = h.follow meet_parted.size run.0 meet_parted.mine_follow;
+        });
+        joined = λ values.
+            let f = shifted_by_value values in
+            subst (λ ps. AreMovedOver ps (map f mine) (map parcel_by_value (committed ++ some)) (map f after))
+            (sym (ap (map parcel_by_value) taken ∙ map-append parcel_by_value (take i foreign) part))
+            (subst (λ cs. AreMovedOver (map parcel_by_value (take i foreign) ++ map parcel_by_value part) (map f mine) cs (map f after))
+            (sym (map-append parcel_by_value committed some))
+            (moved_both (map parcel_by_value (take i foreign)) (map f mine) (map parcel_by_value committed) (map f now) (map parcel_by_value part) (map parcel_by_value some) (map f after)
+            (so_far.joined values) (h.joined values)));
+        outlines = map-append outline committed some ∙ (ap (λ l. l ++ map outline some) so_far.outlines ∙ (ap (λ l. map outline (take i foreign) ++ l) h.outlines
+            ∙ (sym (map-append outline (take i foreign) part) ∙ ap (map outline) (sym taken))));
+        cite = λ g. All-append ParcelCites committed some (so_far.cite g) (h.cite (All-take ParcelCites n (drop i foreign) (All-drop ParcelCites i foreign g)));
+      }
+
 -- ---- mine entry by entry
 
 pub operations_over : (values : List Value) (entries : List Entry) → operations_of (all_over values entries) ≡ all_operations entries
@@ -286,6 +333,35 @@ sizes : (parcels : List Parcel) → map length (map parcel_by_value parcels) ≡
 sizes [] = refl
 sizes (p ∷ parcels) =
     ap (λ n. n ∷ map length (map parcel_by_value parcels)) (length-map p.entry.txs (by_value p.values)) ∙ ap (λ l. length p.entry.txs ∷ l) (sizes parcels)
+
+parcels_are : (parcels : List Parcel) → all_of (map parcel_by_value parcels) ≡ parcels_by_value parcels
+parcels_are parcels = flat_map-map (λ ts. ts) parcel_by_value parcels
+
+module _ (foreign : List Parcel) (all mine : List Shifted) (written : AreWritten (operations_of foreign) all) (shifted : All IsShifted all) where
+  pub some_start : MeetMoved (parcels_by_value foreign) mine → StartTogether all mine
+  some_start meet = record {
+    length = meet.size;
+    committed_follow = each_follows (values_of foreign) meet.size (operations_of foreign) all written shifted (subst (RunOnLength meet.size) (parcels_each foreign) meet.foreign_run);
+    mine_follow = meet.mine_follow;
+  }
+
+  pub some_moved : (over after : List Shifted) (made : List Parcel) → AreRows all mine over after → AreWritten (operations_of made) over → map outline made ≡ map outline foreign →
+      (All ParcelCites foreign → All ParcelCites made) → AreMoved foreign mine after made
+  some_moved over after made rows w same cite = record {
+    joined = λ values.
+        let f = shifted_by_value values in
+        moved_at_once (map parcel_by_value foreign) (map parcel_by_value made) (map f mine) (map f after)
+        (ap (λ l. join_list l (map f mine)) (parcels_are foreign ∙ written_parcels foreign foreign all written refl)
+        ∙ (rows.joined (values_of foreign) values ∙ ap (λ l. both l (map f after)) (sym (parcels_are made ∙ written_parcels foreign made over w same))))
+        (sizes made ∙ (ap (map (λ o. o.0)) same ∙ sym (sizes foreign)));
+    shifted = rows.mine_shifted;
+    kept = rows.mine_kept;
+    follow = λ n run h.
+        subst (λ m. FollowFrom m after) (length_each (values_of foreign) n (operations_of foreign) all written shifted ∙ ap (length_given n) (sym (parcels_each foreign)))
+        (rows.mine_follow n (each_follows (values_of foreign) n (operations_of foreign) all written shifted (subst (RunOnLength n) (parcels_each foreign) run)) h);
+    outlines = same;
+    cite = cite;
+  }
 
 pub all_made : (foreign : List Parcel) (entries : List Entry) (all after : List Shifted) (committed : List Parcel) (kept : List Entry) → AreBegun entries all → WereMoved foreign all after committed →
     AreWrittenInto entries after kept → AreAllUnder foreign entries (record { committed = committed; kept = kept })

@@ -1,5 +1,5 @@
 -- A row joined cell by cell, and rows joined one by one.
-use Rattle.std.proofs.Common.{◌≡◌, ◌≤◌, ◌<◌, ℕ, zero, suc, List, [], ◌∷◌, ◌++◌, length, map, take, drop, get_or, All, Result, Ok, Err, refl, sym, ap, subst, ◌∙◌, arith, if◌then◌else◌, Bool, true, false}
+use Rattle.std.proofs.Common.{◌≡◌, ◌≤◌, ◌<◌, ℕ, zero, suc, ◌+◌, List, [], ◌∷◌, ◌++◌, length, map, take, drop, get_or, All, Result, Ok, Err, refl, sym, ap, subst, ◌∙◌, arith, if◌then◌else◌, Bool, true, false}
 use Rattle.std.proofs.lemmas.List.{append_assoc, append-nil, take_all, drop_all, map-append}
 use Rattle.std.proofs.lemmas.List.Elements.{All-get_or, All-set}
 use Rattle.std.specs.Prelude.{slice_set}
@@ -11,17 +11,14 @@ use Rattle.ve_rebase.specs.declared.fault.RebaseFault.{RebaseFault}
 use Rattle.ve_rebase.specs.declared.fault.RebaseFault.TheVariants.{Conflict, Memory}
 use Rattle.ve_rebase.specs.declared.span.ActiveSpan.{ActiveSpan}
 use Rattle.ve_rebase.specs.declared.shifted.Shifted.{Shifted}
-use Rattle.ve_rebase.specs.Span.{old_size, new_size}
+use Rattle.ve_rebase.specs.Span.{old_size, new_size, AreJoinedApart}
 use Rattle.ve_rebase.specs.Pair.{between}
 use Rattle.ve_rebase.specs.Lists.{IsRefusedAs, zipped}
-use Rattle.ve_rebase.specs.Shifted.{MayMove, IsShifted, shifted_by_value, all_by_value, operations, FollowFrom, length_after, ArePaired, IsRow, AreRows, StartTogether}
+use Rattle.ve_rebase.specs.Shifted.{IsShifted, shifted_by_value, all_by_value, operations, FollowFrom, length_after, ArePaired, row_after, with_span, RowSoFar, IsOver, IsRow, AreRows, StartTogether}
+use Rattle.ve_rebase.proofs.RangeLemmas.{apart_conflict}
+use Rattle.ve_rebase.proofs.ShiftedLemmas.{paired_so}
 
--- a row after what is joined of it
-abbrev pub row_after : List Transaction → Result (List Transaction × Transaction) RangeConflict → Result (List Transaction × Transaction) RangeConflict
-row_after done (Ok row) = Ok (done ++ row.0, row.1)
-row_after done (Err clash) = Err clash
-
-row_after-none : (r : Result (List Transaction × Transaction) RangeConflict) → r ≡ row_after [] r
+pub row_after-none : (r : Result (List Transaction × Transaction) RangeConflict) → r ≡ row_after [] r
 row_after-none (Ok row) = refl
 row_after-none (Err clash) = refl
 
@@ -119,6 +116,11 @@ length-map-same f [] (y ∷ ys) e = absurd (cc)
 length-map-same f (x ∷ xs) [] e = absurd (cc)
 length-map-same f (x ∷ xs) (y ∷ ys) e = let r : map f xs ≡ map f ys = cc in ap suc (length-map-same f xs ys r)
 
+-- what was lent as a slice, and is as long as before, is all there is
+pub lent_whole : {A : Type 0} (n : ℕ) (new old : List A) → length new ≡ length old → length old ≤ n → take n (new ++ drop (length new) old) ≡ new
+lent_whole n new old same within =
+    ap (λ l. take n (new ++ l)) (drop_all (length new) old (omega (arith, same))) ∙ (ap (take n) (append-nil new) ∙ take_all n new (omega (arith, same, within)))
+
 row_after-twice : (done : List Transaction) (one : Transaction) (r : Result (List Transaction × Transaction) RangeConflict) →
     row_after done (row_after (one ∷ []) r) ≡ row_after (done ++ one ∷ []) r
 row_after-twice done one (Ok row) = ap (λ l. Ok (l, row.1)) (sym (append_assoc done (one ∷ []) row.0))
@@ -127,19 +129,6 @@ row_after-twice done one (Err clash) = refl
 length_after_one : (n : ℕ) (xs : List Shifted) (one : Shifted) → length_after n (xs ++ one ∷ []) ≡ new_size one.span
 length_after_one n [] one = refl
 length_after_one n (x ∷ xs) one = length_after_one (new_size x.span) xs one
-
--- how far a row is joined: the ones before an index are over mine, whose span is this one by then
-pub record RowSoFar (old now : List Shifted) (mine : Shifted) (span : ActiveSpan) (i : ℕ) : Type 0 where
-  pub kept : map operations now ≡ map operations old
-  pub shifted : All IsShifted now
-  pub mine_shifted : MayMove span mine.tx.now
-  pub done : (more : List Shifted) → FollowFrom (new_size span) more → FollowFrom (new_size mine.span) (take i now ++ more)
-  pub left : FollowFrom (old_size span) (drop i now)
-  pub old_end : length_after (old_size span) (drop i now) ≡ length_after (old_size mine.span) old
-  pub new_end : length_after (new_size mine.span) (take i now) ≡ new_size span
-  pub joined : (values : List (List Value)) (others : List Value) →
-      join_row (all_by_value values old) (shifted_by_value others mine)
-      ≡ row_after (all_by_value values (take i now)) (join_row (all_by_value (drop i values) (drop i now)) (between span (by_value others mine.tx.now)))
 
 pub row_begun : (committed : List Shifted) (mine : Shifted) → All IsShifted committed → FollowFrom (old_size mine.span) committed → IsShifted mine →
     RowSoFar committed committed mine mine.span 0
@@ -212,6 +201,19 @@ module _ (old now : List Shifted) (mine : Shifted) (span : ActiveSpan) (i : ℕ)
         ∙ ap (λ l. row_after (all_by_value values (take (suc i) (slice_set now i (record { tx = one.tx; span = s })))) (join_row (all_by_value (drop (suc i) values) l) y2))
         (sym (drop-set i now (record { tx = one.tx; span = s })))))));
   }
+
+  -- where their ranges lie apart
+  pub row_apart : (s r : ActiveSpan) → AreJoinedApart one.span span s r → RowSoFar old (slice_set now i (record { tx = one.tx; span = s })) mine r (suc i)
+  row_apart s r j =
+      let by_now : Shifted = record { tx = mine.tx; span = span } in
+      row_next s r (paired_so one by_now s r one_shifted so_far.mine_shifted one_length j.first j.second (λ values others. apart_conflict one by_now one_shifted so_far.mine_shifted j.apart values others) j.short)
+
+  -- or where it is joined with the span of mine by then
+  pub row_over : (over : Shifted) (r : ActiveSpan) → IsOver one (with_span mine span) over r → RowSoFar old (slice_set now i over) mine r (i + 1)
+  row_over over r h =
+      let next : suc i ≡ i + 1 = omega arith in
+      subst (RowSoFar old (slice_set now i over) mine r) next
+      (subst (λ x. RowSoFar old (slice_set now i x) mine r (suc i)) (sym h.same) (row_next over.span r h.paired))
 
 pub row_done : (old now : List Shifted) (mine : Shifted) (span : ActiveSpan) (i : ℕ) → RowSoFar old now mine span i → length now ≤ i → IsRow old mine now span
 row_done old now mine span i so_far end =

@@ -1,19 +1,19 @@
 -- Two transactions as joining has moved them, and what joining makes of them.
 use Rattle.std.proofs.Common.{◌≡◌, ◌≤◌, ℕ, ◌+◌, ◌^◌, true, false, List, [], ◌∷◌, length, Ok, Err, sym, ap, subst, ◌∙◌, arith, if◌then◌else◌}
 use Rattle.ve_base.specs.declared.value.Value.{Value}
-use Rattle.model_change.specs.Transaction.{Transaction, old_length, new_length, all_inserted, is_reduced}
+use Rattle.model_change.specs.Transaction.{Retain, Replace, Attribute, Transaction, old_length, new_length, all_inserted, is_reduced}
 use Rattle.model_change.specs.Join.{first, last, core, reach, with_ends, conflict, join, join_row, row_with, range_conflict, RangeConflict}
 use Rattle.model_change.proofs.JoinLaw.{joined_as}
 use Rattle.model_change.proofs.JoinLemmas.{ends_split}
 use Rattle.model_change.proofs.JoinLengths.{joins_insert}
-use Rattle.ve_tx.specs.Operation.{by_value}
+use Rattle.ve_tx.specs.Operation.{Operation, by_value}
 use Rattle.ve_rebase.specs.declared.fault.RebaseFault.TheVariants.{Conflict}
 use Rattle.ve_rebase.specs.declared.span.ActiveSpan.{ActiveSpan}
 use Rattle.ve_rebase.specs.declared.shifted.Shifted.{Shifted}
 use Rattle.ve_rebase.specs.Span.{span_of, old_size, new_size, end, joined_first, joined_second}
 use Rattle.ve_rebase.specs.Pair.{FitsIn, between, MayStandIn}
 use Rattle.ve_rebase.specs.Lists.{IsRefusedAs}
-use Rattle.ve_rebase.specs.Shifted.{StandsIn, IsShifted, shifted_by_value, ArePaired}
+use Rattle.ve_rebase.specs.Shifted.{MayMove, StandsIn, IsShifted, shifted_by_value, ArePaired}
 use Rattle.ve_rebase.proofs.SpanLemmas.{old-spans, new-spans, spans_join}
 use Rattle.ve_rebase.proofs.ReadLemmas.{end_within}
 use Rattle.ve_rebase.proofs.PairLemmas.{joined_by, made_is}
@@ -145,6 +145,16 @@ paired_so a b s r h k one e f apart room =
       second_length = y;
       one_length = z;
     }
+
+-- what a transaction takes away lies within what it reaches
+taken_within : (t : Transaction) → old_length t ≤ reach t
+taken_within [] = omega arith
+taken_within (Retain n ∷ ops) = let r = taken_within ops in omega arith
+taken_within (Replace removed inserted ∷ ops) = let r = taken_within ops in omega arith
+taken_within (Attribute c ∷ ops) = let r = taken_within ops in omega arith
+
+pub removed_within : (s : ActiveSpan) (tx : List Operation) → MayMove s tx → s.removed ≤ s.reach
+removed_within s tx h = subst (λ (r : ActiveSpan). r.removed ≤ r.reach) (h.stands []).span (taken_within (core (between s (by_value [] tx))))
 
 -- the length of what is joined is a machine's number
 pub joined_small : (a b : Shifted) → IsShifted a → IsShifted b → old_size a.span ≡ old_size b.span → conflict (shifted_by_value [] a) (shifted_by_value [] b) ≡ false →

@@ -14,7 +14,7 @@ use Rattle.ve_rebase.specs.declared.until.JoinedEntries.{JoinedEntries}
 use Rattle.ve_rebase.specs.Entries.{parcels_by_value, operations_of, outline}
 use Rattle.ve_tx.specs.ByValue.{parcel_by_value, ParcelCites}
 use Rattle.ve_rebase.specs.declared.fault.RebaseFault.{RebaseFault}
-use Rattle.ve_rebase.specs.Lists.{RunOnLength, RunFromOneLength, IsRefusedAs}
+use Rattle.ve_rebase.specs.Lists.{RunOnLength, RunFromOneLength, IsRefusedAs, each_by_value}
 use Rattle.ve_rebase.specs.Shifted.{IsShifted, FollowFrom, length_after, shifted_by_value, all_by_value, StartTogether, AreRows, AreWritten}
 use Rattle.ve_rebase.specs.Until.{joined_until, AreJoined, length_given, Meet, IsJoinedOver}
 use Rattle.ve_rebase.proofs.WrittenLemmas.{written_mine, each_follows, follows, new_is}
@@ -29,6 +29,16 @@ length_alike v n (t ∷ txs) (a ∷ all) h g =
     ap (λ m. length_after m all) (sym (new_is v t a (h.0 v) (All-head IsShifted a all g))) ∙ length_alike v (new_length (by_value v t)) txs all h.1 (All-tail IsShifted a all g)
 length_alike v n [] (a ∷ all) h g = absurd h
 length_alike v n (t ∷ txs) [] h g = absurd h
+
+pub length_each : (values : List (List Value)) (n : ℕ) (txs : List (List Operation)) (all : List Shifted) → AreWritten txs all → All IsShifted all →
+    length_after n all ≡ length_given n (each_by_value values txs)
+length_each values n [] [] h g = refl
+length_each [] n (t ∷ txs) (a ∷ all) h g =
+    ap (λ m. length_after m all) (sym (new_is [] t a (h.0 []) (All-head IsShifted a all g))) ∙ length_each [] (new_length (by_value [] t)) txs all h.1 (All-tail IsShifted a all g)
+length_each (v ∷ values) n (t ∷ txs) (a ∷ all) h g =
+    ap (λ m. length_after m all) (sym (new_is v t a (h.0 v) (All-head IsShifted a all g))) ∙ length_each values (new_length (by_value v t)) txs all h.1 (All-tail IsShifted a all g)
+length_each values n [] (a ∷ all) h g = absurd h
+length_each values n (t ∷ txs) [] h g = absurd h
 
 pub entry_starts : (over more : List Shifted) (mine : Parcel) → AreWritten mine.entry.txs more → All IsShifted more → Meet over (parcel_by_value mine) → StartTogether over more
 entry_starts over more mine k i meet = record {

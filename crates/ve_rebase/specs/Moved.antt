@@ -10,7 +10,7 @@ use Rattle.ve_tx.specs.ByValue.{parcel_by_value, ParcelCites}
 use Rattle.ve_tx.specs.Operation.{Operation}
 use Rattle.ve_rebase.specs.declared.fault.RebaseFault.{RebaseFault}
 use Rattle.ve_rebase.specs.declared.shifted.Shifted.{Shifted}
-use Rattle.ve_rebase.specs.Entries.{outline}
+use Rattle.ve_rebase.specs.Entries.{parcels_by_value, outline}
 use Rattle.ve_rebase.specs.Lists.{RunOnLength, IsRefusedAs}
 use Rattle.ve_rebase.specs.Shifted.{IsShifted, FollowFrom, AreWritten, operations, shifted_by_value}
 use Rattle.ve_rebase.specs.Until.{length_given}
@@ -43,6 +43,16 @@ pub record IsMovedOver (foreign : Parcel) (mine after : List Shifted) (made : Pa
   pub follow : (n : ℕ) → RunOnLength n (parcel_by_value foreign) → FollowFrom n mine → FollowFrom (length_given n (parcel_by_value foreign)) after
   pub outline_kept : outline made ≡ outline foreign
   pub cites : ParcelCites foreign → ParcelCites made
+
+-- mine moved over entries of others at once, none of which is in conflict, and what these are over mine
+pub record AreMoved (foreign : List Parcel) (mine after : List Shifted) (made : List Parcel) : Type 0 where
+  pub joined : (values : List Value) →
+      AreMovedOver (map parcel_by_value foreign) (map (shifted_by_value values) mine) (map parcel_by_value made) (map (shifted_by_value values) after)
+  pub shifted : All IsShifted after
+  pub kept : map operations after ≡ map operations mine
+  pub follow : (n : ℕ) → RunOnLength n (parcels_by_value foreign) → FollowFrom n mine → FollowFrom (length_given n (parcels_by_value foreign)) after
+  pub outlines : map outline made ≡ map outline foreign
+  pub cite : All ParcelCites foreign → All ParcelCites made
 
 -- it isn't joined, whatever values mine cite
 abbrev pub IsMoveRefused : Parcel → List Shifted → RebaseFault → Type 0

@@ -1,6 +1,6 @@
 -- Transactions as joining has moved them so far: each keeps its operations, between the ends of a
 -- span. By value each reads a list of values of its own.
-use Rattle.std.specs.Prelude.{◌≡◌, ℕ, true, List, [], ◌∷◌, length, map, All, Result, Ok}
+use Rattle.std.specs.Prelude.{◌≡◌, ℕ, true, List, [], ◌∷◌, ◌++◌, length, map, take, drop, All, Result, Ok, Err}
 use Rattle.ve_base.specs.Limits.{max_total_length}
 use Rattle.ve_base.specs.declared.value.Value.{Value}
 use Rattle.model_change.specs.Transaction.{Transaction, all_inserted, is_reduced}
@@ -91,6 +91,34 @@ pub record IsRow (committed : List Shifted) (mine : Shifted) (over : List Shifte
   -- mine then is on the list that the committed ones give, and gives the list that they do over it
   pub old_end : old_size span ≡ length_after (old_size mine.span) committed
   pub new_end : new_size span ≡ length_after (new_size mine.span) over
+
+-- ---- how far a row is joined: for private functions
+
+-- another span for the same transaction
+abbrev pub with_span : Shifted → ActiveSpan → Shifted
+with_span one span = record one { span = span }
+
+-- a row after what is joined of it
+abbrev pub row_after : List Transaction → Result (List Transaction × Transaction) RangeConflict → Result (List Transaction × Transaction) RangeConflict
+row_after done (Ok row) = Ok (done ++ row.0, row.1)
+row_after done (Err clash) = Err clash
+
+-- how far a row is joined: the ones before an index are over mine, whose span is this one by then
+pub record RowSoFar (old now : List Shifted) (mine : Shifted) (span : ActiveSpan) (i : ℕ) : Type 0 where
+  pub kept : map operations now ≡ map operations old
+  pub shifted : All IsShifted now
+  pub mine_shifted : MayMove span mine.tx.now
+  pub done : (more : List Shifted) → FollowFrom (new_size span) more → FollowFrom (new_size mine.span) (take i now ++ more)
+  pub left : FollowFrom (old_size span) (drop i now)
+  pub old_end : length_after (old_size span) (drop i now) ≡ length_after (old_size mine.span) old
+  pub new_end : length_after (new_size mine.span) (take i now) ≡ new_size span
+  pub joined : (values : List (List Value)) (others : List Value) →
+      join_row (all_by_value values old) (shifted_by_value others mine)
+      ≡ row_after (all_by_value values (take i now)) (join_row (all_by_value (drop i values) (drop i now)) (between span (by_value others mine.tx.now)))
+
+-- some row is joined so far, of which this is mine by then
+abbrev pub IsRowUnderWay : (now : List Shifted) (mine : Shifted) → ℕ → Type 0
+IsRowUnderWay now mine i = (old : List Shifted) × (start : ActiveSpan) × RowSoFar old now (with_span mine start) mine.span i
 
 -- all rows joined
 pub record AreRows (committed mine over mine_over : List Shifted) : Type 0 where

@@ -1,14 +1,14 @@
 // A site's entries joined over entries of other sites, until one of these is in conflict.
-ghost use Rattle.std.specs.Prelude.{◌≡◌, ◌++◌, All, map, IfOk, IfErr, OnOk, OnErr};
+ghost use Rattle.std.specs.Prelude.{◌≡◌, ◌≤◌, ◌++◌, All, map, IfOk, IfErr, OnOk, OnErr};
 ghost use Rattle.ve_tx.specs.ByValue.{parcel_by_value};
 ghost use Rattle.ve_rebase.specs.Entries.{parcels_by_value};
 ghost use Rattle.ve_rebase.specs.Lists.{RunFromOneLength};
 ghost use Rattle.ve_rebase.specs.Shifted.{IsShifted, operations};
 ghost use Rattle.ve_rebase.specs.Under.{all_over, AreAllUnder};
-ghost use Rattle.ve_rebase.specs.Moved.{all_operations, AreBegun, AreWrittenInto, IsMovedOver, IsMoveRefused, IsWrittenInto, MeetMoved, WereMoved};
+ghost use Rattle.ve_rebase.specs.Moved.{all_operations, AreBegun, AreMoved, AreWrittenInto, IsMovedOver, IsMoveRefused, IsWrittenInto, MeetMoved, WereMoved};
 
 use crate::RebaseFault;
-use crate::entries::parcel_with;
+use crate::entries::{all_begun, parcel_with, parcels_with};
 use crate::join_lists::rows;
 use crate::shifted::{Shifted, begun, written};
 use crate::under::entry_in;
@@ -16,6 +16,9 @@ use std::alloc::Global;
 use std::mem::swap;
 use ve_base::Memory;
 use ve_tx::{Entry, EntryList, Parcel, ParcelList};
+
+// How many entries of others are tried at once, at most: their spans stay in the nearest cache.
+const AT_ONCE: usize = 64;
 
 /// A site's entries over entries of other sites, up to the first of these that is in conflict.
 #[derive(Drop)]
@@ -78,8 +81,49 @@ fn moved_over<'a>(
     Ok(made)
 }
 
+/// Mine moved over all of these entries at once, and these over mine: the same as one after the
+/// other, where none is in conflict. At an `Err` mine stay as they are.
+fn moved_at_once<'a>(
+    alloc: Global,
+    foreign: &[Parcel],
+    mine: &mut Vec<Shifted<'a>>,
+    buffer: &mut Vec<Shifted<'a>>,
+) -> Result<ParcelList, RebaseFault>
+    requires shifted { All IsShifted mine.old.items }
+    requires meet { MeetMoved (parcels_by_value foreign.now) mine.old.items }
+    ensures moved { IfOk result (AreMoved foreign.now mine.old.items mine.new.items) }
+    ensures kept { OnErr result (mine.new.items ≡ mine.old.items) }
+{
+    let mut all = all_begun(alloc, foreign)?;
+    put_into(buffer, mine.as_slice())?;
+    rows(&mut all, buffer)?;
+    let made = parcels_with(alloc, foreign, all.as_slice())?;
+    swap(mine, buffer);
+    Ok(made)
+}
+
+/// How many entries are tried at once after so many that were in no conflict.
+fn longer(count: usize) -> usize
+    requires { 1 ≤ count }
+    ensures { 1 ≤ result }
+{
+    if count < AT_ONCE { count * 2 } else { count }
+}
+
+/// So many, or all where fewer are left.
+fn within(count: usize, left: usize) -> usize
+    requires some { 1 ≤ count }
+    requires more { 1 ≤ left }
+    ensures some { 1 ≤ result }
+    ensures left { result ≤ left }
+{
+    if count < left { count } else { left }
+}
+
 /// Mine moved over entries of other sites, one after the other, up to the first that is in
 /// conflict with one of them: the others' before it, each over mine as they are by then.
+// Several at once cost less: so they are tried, and more of them as long as none is in conflict. One
+// that is costs what was tried with it, which is about as much as went before.
 fn moved_over_all(
     alloc: Global,
     foreign: &[Parcel],
@@ -91,12 +135,23 @@ fn moved_over_all(
 {
     let mut buffer = Vec::with_capacity(alloc, mine.len())?;
     let mut committed = ParcelList::new(alloc);
-    for parcel in foreign {
-        match moved_over(alloc, parcel, mine, &mut buffer) {
+    let mut at = 0;
+    let mut count = 1;
+    while at < foreign.len() {
+        let end = at + within(count, foreign.len() - at);
+        if let Ok(some) = moved_at_once(alloc, &foreign[at..end], mine, &mut buffer) {
+            committed.append(some)?;
+            at = end;
+            count = longer(count);
+            continue;
+        }
+        match moved_over(alloc, &foreign[at], mine, &mut buffer) {
             Ok(made) => committed.push(made)?,
             Err(RebaseFault::Conflict { .. }) => return Ok(committed),
             Err(RebaseFault::Memory) => return Err(Memory),
         }
+        at += 1;
+        count = 1;
     }
     Ok(committed)
 }

@@ -47,7 +47,7 @@ pub fn parcel_with(alloc: Global, parcel: &Parcel, all: &[Shifted<'_>]) -> Resul
 }
 
 /// Parcels with these transactions, in order, in the place of their own.
-fn parcels_with(
+pub fn parcels_with(
     alloc: Global,
     parcels: &[Parcel],
     all: &[Shifted<'_>],

@@ -1,9 +1,9 @@
 // Two lists of transactions joined, row by row.
-ghost use Rattle.std.specs.Prelude.{◌≡◌, All, map, IfOk, IfErr, OnOk};
+ghost use Rattle.std.specs.Prelude.{◌≡◌, ◌≤◌, All, length, map, IfOk, IfErr, OnOk};
 ghost use Rattle.ve_tx.specs.Cites.{TxCites};
 ghost use Rattle.ve_tx.specs.Operation.{by_value};
 ghost use Rattle.ve_rebase.specs.Lists.{RunFromOneLength, AreListsJoined, AreListsRefused, IsRefusedAs};
-ghost use Rattle.ve_rebase.specs.Shifted.{IsShifted, FollowFrom, StartTogether, joined_pair, joined_row, joined_rows, IsOver, IsRow, AreRows};
+ghost use Rattle.ve_rebase.specs.Shifted.{IsShifted, FollowFrom, StartTogether, joined_pair, joined_row, joined_rows, with_span, IsOver, IsRow, IsRowUnderWay, RowSoFar, AreRows};
 ghost use Rattle.ve_rebase.specs.Span.{old_size};
 
 use crate::RebaseFault;
@@ -11,6 +11,27 @@ use crate::shifted::{Shifted, begun, paired, written};
 use crate::span::{ActiveSpan, join_apart};
 use std::alloc::Global;
 use ve_tx::TxList;
+
+/// Joins mine with the committed ones from an index on, in turn, as long as their ranges lie apart.
+/// It says at which this ends, and the span of mine over those before it.
+// Nearly all of joining happens here: the loop makes no call, and keeps the span in registers.
+#[inline(never)]
+fn pass_apart(committed: &mut [Shifted<'_>], mine: Shifted<'_>, from: usize) -> (usize, ActiveSpan)
+    requires row { IsRowUnderWay committed.old mine from }
+    requires from { from ≤ length committed.old }
+    ensures row { (old : _) (start : _)
+        → RowSoFar old committed.old (with_span mine.entry start) mine.entry.span from
+        → RowSoFar old committed.new (with_span mine.entry start) result.1 result.0 }
+    ensures on { from ≤ result.0 }
+{
+    let mut span = mine.span;
+    for i in from..committed.len() {
+        if !join_apart(&mut committed[i].span, &mut span) {
+            return (i, span);
+        }
+    }
+    (committed.len(), span)
+}
 
 /// A committed one over one of mine: it becomes what it is over it, and the span is that of mine
 /// over it.
@@ -22,10 +43,6 @@ fn over(one: &mut Shifted<'_>, mine: Shifted<'_>) -> Result<ActiveSpan, RebaseFa
     ensures refused { IfErr result (λ why.
         (values others : _) → IsRefusedAs (joined_pair values others one.old mine.entry) why) }
 {
-    let mut span = mine.span;
-    if join_apart(&mut one.span, &mut span) {
-        return Ok(span);
-    }
     let (first, second) = paired(*one, mine)?;
     one.span = first;
     Ok(second)
@@ -33,19 +50,29 @@ fn over(one: &mut Shifted<'_>, mine: Shifted<'_>) -> Result<ActiveSpan, RebaseFa
 
 /// The committed ones in turn over one of mine: they become what they are over it, and the span is
 /// that of mine over them.
-fn row(committed: &mut Vec<Shifted<'_>>, mine: Shifted<'_>) -> Result<ActiveSpan, RebaseFault>
-    requires shifted { All IsShifted committed.old.items }
-    requires follow { FollowFrom (old_size mine.span) committed.old.items }
+fn row(committed: &mut [Shifted<'_>], mine: Shifted<'_>) -> Result<ActiveSpan, RebaseFault>
+    requires shifted { All IsShifted committed.old }
+    requires follow { FollowFrom (old_size mine.span) committed.old }
     requires mine { IsShifted mine }
     ensures row { IfOk result (λ span.
-        IsRow committed.old.items mine.entry committed.new.items span) }
+        IsRow committed.old mine.entry committed.new span) }
     ensures refused { IfErr result (λ why.
         (values others : _)
-        → IsRefusedAs (joined_row values others committed.old.items mine.entry) why) }
+        → IsRefusedAs (joined_row values others committed.old mine.entry) why) }
 {
-    let mut span = mine.span;
-    for i in 0..committed.len() {
-        span = over(&mut committed[i], Shifted { tx: mine.tx, span })?;
+    let (mut at, mut span) = pass_apart(committed, mine, 0);
+    while at < committed.len() {
+        let met = over(&mut committed[at], Shifted { tx: mine.tx, span })?;
+        let (next, moved) = pass_apart(
+            committed,
+            Shifted {
+                tx: mine.tx,
+                span: met,
+            },
+            at + 1,
+        );
+        at = next;
+        span = moved;
     }
     Ok(span)
 }
@@ -66,7 +93,7 @@ pub fn rows(
 {
     for j in 0..mine.len() {
         let one = mine[j];
-        let span = row(committed, one)?;
+        let span = row(committed.as_mut_slice(), one)?;
         mine[j] = Shifted { tx: one.tx, span };
     }
     Ok(())

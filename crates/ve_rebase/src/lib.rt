@@ -25,9 +25,9 @@
 //! their ranges overlap are found from the two spans alone. `joined_stay_normal` says that joined
 //! transactions keep the bound of 2^60 where the list with all that both sides insert is within it.
 //!
-//! What is moved along as spans is copied before each entry that may conflict. A conflict leaves it
-//! half moved, and what was joined up to it has to stand: the other's transactions over entries of a
-//! site, or these over entries of others.
+//! What is moved along as spans is copied before an entry that may conflict, or before several that
+//! are tried at once. A conflict leaves it half moved, and what was joined up to it has to stand: the
+//! other's transactions over entries of a site, or these over entries of others.
 #![tactic(auto)]
 
 mod all_under;

@@ -154,52 +154,42 @@ pub fn joined_second(a: ActiveSpan, b: ActiveSpan) -> ActiveSpan
     }
 }
 
-/// Joins two of which the first ends before the second begins, where no list becomes too long.
-fn join_before(a: &mut ActiveSpan, b: &mut ActiveSpan) -> bool
+/// Joins two of which the first ends before the second begins.
+fn join_before(a: &mut ActiveSpan, b: &mut ActiveSpan)
     requires first { FitsIn max_total_length a.old }
     requires second { FitsIn max_total_length b.old }
-    ensures first { result ≡ true
-        → a.new ≡ span_between a.old a.old.first (moved_by b.old a.old.last) }
-    ensures second { result ≡ true
-        → b.new ≡ span_between b.old (moved_by a.old b.old.first) b.old.last }
-    ensures short { result ≡ true → new_size a.new ≤ max_total_length }
-    ensures kept { result ≡ false → (a.new ≡ a.old) × (b.new ≡ b.old) }
+    requires room { b.old.removed ≤ a.old.last }
+    requires before { a.old.removed ≤ b.old.first }
+    ensures first { a.new ≡ span_between a.old a.old.first (moved_by b.old a.old.last) }
+    ensures second { b.new ≡ span_between b.old (moved_by a.old b.old.first) b.old.last }
 {
-    let last = moved(a.last, *b);
-    if a.first + (a.inserted + last) > MAX_TOTAL_LENGTH {
-        return false;
-    }
-    b.first = moved(b.first, *a);
-    a.last = last;
-    true
+    a.last = a.last + b.inserted - b.removed;
+    b.first = b.first + a.inserted - a.removed;
 }
 
-/// Joins two of which the second ends before the first begins, where no list becomes too long.
-fn join_after(a: &mut ActiveSpan, b: &mut ActiveSpan) -> bool
+/// Joins two of which the second ends before the first begins.
+fn join_after(a: &mut ActiveSpan, b: &mut ActiveSpan)
     requires first { FitsIn max_total_length a.old }
     requires second { FitsIn max_total_length b.old }
-    ensures first { result ≡ true
-        → a.new ≡ span_between a.old (moved_by b.old a.old.first) a.old.last }
-    ensures second { result ≡ true
-        → b.new ≡ span_between b.old b.old.first (moved_by a.old b.old.last) }
-    ensures short { result ≡ true → new_size a.new ≤ max_total_length }
-    ensures kept { result ≡ false → (a.new ≡ a.old) × (b.new ≡ b.old) }
+    requires room { b.old.removed ≤ a.old.first }
+    requires after { a.old.removed ≤ b.old.last }
+    ensures first { a.new ≡ span_between a.old (moved_by b.old a.old.first) a.old.last }
+    ensures second { b.new ≡ span_between b.old b.old.first (moved_by a.old b.old.last) }
 {
-    let first = moved(a.first, *b);
-    if first + (a.inserted + a.last) > MAX_TOTAL_LENGTH {
-        return false;
-    }
-    b.last = moved(b.last, *a);
-    a.first = first;
-    true
+    a.first = a.first + b.inserted - b.removed;
+    b.last = b.last + a.inserted - a.removed;
 }
 
 /// Joins two spans in place where both are active, their ranges lie apart, and no list becomes too
-/// long: nearly every pair is such a one, and takes two sums. It says whether they are; else both
+/// long: nearly every pair is such a one, and takes a few sums. It says whether they are; else both
 /// stay as they are.
+// How long the list becomes is asked of what was there before: so no sum waits for a choice.
 pub fn join_apart(a: &mut ActiveSpan, b: &mut ActiveSpan) -> bool
     requires first { FitsIn max_total_length a.old }
     requires second { FitsIn max_total_length b.old }
+    requires reach { a.old.removed ≤ a.old.reach }
+    requires other_reach { b.old.removed ≤ b.old.reach }
+    requires lengths { old_size a.old ≡ old_size b.old }
     ensures joined { result ≡ true → AreJoinedApart a.old b.old a.new b.new }
     ensures kept { result ≡ false → (a.new ≡ a.old) × (b.new ≡ b.old) }
 {
@@ -209,11 +199,16 @@ pub fn join_apart(a: &mut ActiveSpan, b: &mut ActiveSpan) -> bool
     if !a.active || !b.active {
         return false;
     }
+    if a.new_size() + b.inserted > MAX_TOTAL_LENGTH + b.removed {
+        return false;
+    }
     if a.ends_before(*b) {
-        return join_before(a, b);
+        join_before(a, b);
+        return true;
     }
     if b.ends_before(*a) {
-        return join_after(a, b);
+        join_after(a, b);
+        return true;
     }
     false
 }

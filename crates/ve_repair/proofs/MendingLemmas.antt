@@ -102,18 +102,18 @@ len_fits tx r normal range =
     omega (arith, len, size)
 
 -- a tree with the same nodes, root and landmarks
-pub kept_tree : (old new : Tree) (items : List PlainItem) → SameNodes old.arena new.arena → new.root ≡ old.root → new.landmarks ≡ old.landmarks →
+pub kept_tree : (old new : Tree) (items : List PlainItem) → SameNodes old.arena.slots new.arena.slots → new.root ≡ old.root → new.landmarks ≡ old.landmarks →
     IsTreeOf old items → IsTreeOf new items
 kept_tree old new items same root marks tree = record {
-  links = subst (λ r. IsTree new.arena r items) (sym root) (same_tree old.arena new.arena same old.root items tree.links);
-  landmarks = subst (λ r. AreLandmarks new.arena r new.landmarks) (sym root)
-      (subst (AreLandmarks new.arena old.root) (sym marks) (same_landmarks old.arena new.arena old.root old.landmarks same tree.landmarks));
+  links = subst (λ r. IsTree new.arena.slots r items) (sym root) (same_tree old.arena.slots new.arena.slots same old.root items tree.links);
+  landmarks = subst (λ r. AreLandmarks new.arena.slots r new.landmarks) (sym root)
+      (subst (AreLandmarks new.arena.slots old.root) (sym marks) (same_landmarks old.arena.slots new.arena.slots old.root old.landmarks same tree.landmarks));
 }
 
 -- the tree, where nothing comes or goes
 pub tree_of_after : (t : Tree) (tx : List Operation) (items : List Item) → KeepItems (map bare tx) → IsTreeOf t (unvalued items) → IsTreeOfAfter t tx items
 tree_of_after t tx items keep tree values = record {
-  links = tree_stays t.arena t.root tx items keep tree.links values;
+  links = tree_stays t.arena.slots t.root tx items keep tree.links values;
   landmarks = tree.landmarks;
 }
 

@@ -47,13 +47,16 @@ fn read_all<L: Ledger>(
     ops: &[Op],
     steps: &mut Steps<L>,
 ) -> Result<(), Memory>
-    requires reads { MayRead arena.old reader.old front ops.now }
-    ensures read { OnOk result (ReadsOut arena.old reader.old front ops.now arena.new reader.new) }
-    ensures made { MakesOn arena.old reader.old.script arena.new reader.new.script }
+    requires reads { MayRead arena.old.slots reader.old front ops.now }
+    ensures read { OnOk result (
+        ReadsOut arena.old.slots reader.old front ops.now arena.new.slots reader.new) }
+    ensures made { MakesOn arena.old.slots reader.old.script arena.new.slots reader.new.script }
+    ensures first { arena.new.first ≡ arena.old.first }
     ensures paid { OnOk result (IsPaid steps.old reader.old.script steps.new reader.new.script) }
     ensures at_most { OnErr result (
         IsPaidOrOne steps.old reader.old.script steps.new reader.new.script) }
-    ensures part { OnErr result (StopsAmong arena.old reader.old front ops.now reader.new.script) }
+    ensures part { OnErr result (
+        StopsAmong arena.old.slots reader.old front ops.now reader.new.script) }
 {
     reader.retain(arena, front, steps)?;
     reader.read(arena, ops, steps)
@@ -68,10 +71,10 @@ fn planned(
     plan: Plan,
     sizes: Sizes,
 ) -> Result<Vec<Write>, Memory>
-    requires can { CanPlan arena.now root reader.now plan.stacks sizes }
+    requires can { CanPlan arena.now.slots root reader.now plan.stacks sizes }
     requires nothing { plan.writes ≡ [] }
     ensures { IfOk result (λ ws.
-        AreAllWrites arena.now root reader.now plan.stacks sizes ws.items) }
+        AreAllWrites arena.now.slots root reader.now plan.stacks sizes ws.items) }
 {
     let mut plan = plan;
     let mut sizes = sizes;
@@ -89,10 +92,11 @@ fn undone<L: Ledger>(
     reader: &ChangeReader,
     steps: &mut Steps<L>,
 ) -> Result<(), Memory>
-    requires made { SomeMade arena.old reader.now.script }
+    requires made { SomeMade arena.old.slots reader.now.script }
     ensures same { (before : Slots)
-        → HasMade before arena.old (nodes_of How.Put reader.now.script)
-        → SameNodes before arena.new }
+        → HasMade before arena.old.slots (nodes_of How.Put reader.now.script)
+        → SameNodes before arena.new.slots }
+    ensures first { arena.new.first ≡ arena.old.first }
     ensures err { OnOk result ⊥ }
     ensures steps { steps.new ≡ steps.old + length (nodes_of How.Put reader.now.script) }
 {
@@ -113,16 +117,18 @@ pub(crate) fn relink_nodes<L: Ledger>(
     begun: Begun,
     steps: &mut Steps<L>,
 ) -> Result<(), Memory>
-    requires tree { IsTree arena.old root (unvalued list.now.items) }
+    requires tree { IsTree arena.old.slots root (unvalued list.now.items) }
     requires applies { CanApply tx.now list.now.items }
     requires lawful { LawfulAfter tx.now list.now.items }
     requires range { IsChangedRange (map bare tx.now) range }
-    requires start { StartsRange arena.old root range.from begun.start begun.plan.stacks
+    requires start { StartsRange arena.old.slots root range.from begun.start begun.plan.stacks
         begun.sizes }
     requires nothing { begun.plan.writes ≡ [] }
-    ensures links { OnOk result (IsTreeAfter arena.new root tx.now list.now.items) }
-    ensures numbers { OnOk result (KeepsNumbers arena.old arena.new root tx.now list.now.items) }
-    ensures kept { OnErr result (SameNodes arena.old arena.new) }
+    ensures links { OnOk result (IsTreeAfter arena.new.slots root tx.now list.now.items) }
+    ensures numbers { OnOk result (
+        KeepsNumbers arena.old.slots arena.new.slots root tx.now list.now.items) }
+    ensures kept { OnErr result (SameNodes arena.old.slots arena.new.slots) }
+    ensures first { arena.new.first ≡ arena.old.first }
     ensures counted { steps.old ≤ steps.new }
     ensures steps { IsWithinTouch steps.old steps.new tx.now list.now.items }
 {

@@ -17,11 +17,11 @@ fn keep_rest(
     first: Option<NodeId>,
     most: usize,
 ) -> Result<(), Memory>
-    requires row { IsRoomyRow arena.now first most }
+    requires row { IsRoomyRow arena.now.slots first most }
     ensures stacks { OnOk result (
-        StacksForRow arena.now first most plan.old.stacks plan.new.stacks) }
+        StacksForRow arena.now.slots first most plan.old.stacks plan.new.stacks) }
     ensures writes { OnOk result (
-        WritesForRow arena.now first most plan.old.stacks plan.old.writes plan.new.writes) }
+        WritesForRow arena.now.slots first most plan.old.stacks plan.old.writes plan.new.writes) }
 {
     let mut next = first;
     let mut left = most;
@@ -41,11 +41,11 @@ fn keep_level(
     first: Option<NodeId>,
     most: usize,
 ) -> Result<(), Memory>
-    requires row { IsRoomyRow arena.now first most }
+    requires row { IsRoomyRow arena.now.slots first most }
     ensures outer { OnOk result (outer_stacks plan.new.stacks ≡ outer_stacks plan.old.stacks) }
     ensures writes { OnOk result (
         (f : Named)
-        → IsRowFrom arena.now first f
+        → IsRowFrom arena.now.slots first f
         → item_count (unnumbered f) ≤ most
         → plan.new.writes ≡ plan.old.writes ++ level_writes f plan.old.stacks) }
 {
@@ -63,10 +63,10 @@ pub(crate) fn close_all(
     first: Option<NodeId>,
     most: usize,
 ) -> Result<(), Memory>
-    requires left { AreSomeLeft arena.now most plan.old.stacks.old first }
+    requires left { AreSomeLeft arena.now.slots most plan.old.stacks.old first }
     ensures writes { OnOk result (
         (fs : List Named)
-        → AreLeft arena.now most plan.old.stacks.old first fs
+        → AreLeft arena.now.slots most plan.old.stacks.old first fs
         → plan.new.writes ≡ plan.old.writes ++ close_writes fs plan.old.stacks) }
 {
     let mut next = first;

@@ -36,11 +36,11 @@ impl Cursor {
     /// Passes a bracket, or characters of one text, and at most so many items.
     pub(crate) fn pass(self, arena: &Arena, most: usize) -> Passed
         requires some { 1 ≤ most }
-        requires at { IsAtSome arena.now self most }
+        requires at { IsAtSome arena.now.slots self most }
         ensures { (spot : Spot)
-            → IsAt arena.now self spot
+            → IsAt arena.now.slots self spot
             → most ≤ items_in spot.rest
-            → IsPassed arena.now most spot result }
+            → IsPassed arena.now.slots most spot result }
     {
         let Some(n) = self.next else {
             let node = arena.node(self.parent);
@@ -94,8 +94,8 @@ impl Cursor {
 
     /// How many characters are left of the text that comes next, if one does.
     pub(crate) fn rest_of_text(self, arena: &Arena) -> usize
-        requires { IsAtSome arena.now self 0 }
-        ensures { (spot : Spot) → IsAt arena.now self spot → IsRestOfText spot result }
+        requires { IsAtSome arena.now.slots self 0 }
+        ensures { (spot : Spot) → IsAt arena.now.slots self spot → IsRestOfText spot result }
     {
         let Some(n) = self.next else {
             return 0;

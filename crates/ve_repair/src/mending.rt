@@ -40,11 +40,13 @@ pub fn relink<L: Ledger>(
     requires lawful { LawfulAfter tx.now list.now.items }
     ensures tree { OnOk result (IsTreeOfAfter tree.new tx.now list.now.items) }
     ensures numbers { OnOk result (
-        KeepsNumbers tree.old.arena tree.new.arena tree.old.root tx.now list.now.items) }
+        KeepsNumbers tree.old.arena.slots tree.new.arena.slots tree.old.root tx.now
+        list.now.items) }
     ensures root { tree.new.root ≡ tree.old.root }
     ensures kept { OnErr result (
         (others : List PlainItem) → IsTreeOf tree.old others → IsTreeOf tree.new others) }
-    ensures same { OnErr result (SameNodes tree.old.arena tree.new.arena) }
+    ensures same { OnErr result (SameNodes tree.old.arena.slots tree.new.arena.slots) }
+    ensures first { tree.new.arena.first ≡ tree.old.arena.first }
     ensures counted { steps.old ≤ steps.new }
     ensures steps { IsWithinTouch steps.old steps.new tx.now list.now.items }
 {
@@ -97,11 +99,13 @@ pub fn repair<L: Ledger>(
     ensures tree { OnOk result (IsTreeOfAfter tree.new tx.now list.now.items) }
     ensures cause { IfErr result (IsCause tx.now list.now.items) }
     ensures numbers { OnOk result (
-        KeepsNumbers tree.old.arena tree.new.arena tree.old.root tx.now list.now.items) }
+        KeepsNumbers tree.old.arena.slots tree.new.arena.slots tree.old.root tx.now
+        list.now.items) }
     ensures root { tree.new.root ≡ tree.old.root }
     ensures kept { OnErr result (
         (others : List PlainItem) → IsTreeOf tree.old others → IsTreeOf tree.new others) }
-    ensures same { OnErr result (SameNodes tree.old.arena tree.new.arena) }
+    ensures same { OnErr result (SameNodes tree.old.arena.slots tree.new.arena.slots) }
+    ensures first { tree.new.arena.first ≡ tree.old.arena.first }
     ensures none { IfErr result (CostsNone steps.old steps.new) }
     ensures counted { steps.old ≤ steps.new }
     ensures steps { IsWithinTouch steps.old steps.new tx.now list.now.items }

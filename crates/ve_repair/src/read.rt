@@ -107,10 +107,11 @@ impl ChangeReader {
         what: NodeWhat,
         steps: &mut Steps<L>,
     ) -> Result<NodeId, Memory>
-        ensures node { IfOk result (λ n. slot_at arena.new n.0 ≡ Some (new_node what)) }
+        ensures node { IfOk result (λ n. slot_at arena.new.slots n.0 ≡ Some (new_node what)) }
         ensures reader { IfOk result (λ n. self.new ≡ with_steps (put_step what n ∷ []) self.old) }
-        ensures keeps { Keeps arena.old arena.new }
-        ensures made { MakesOn arena.old self.old.script arena.new self.new.script }
+        ensures keeps { Keeps arena.old.slots arena.new.slots }
+        ensures made { MakesOn arena.old.slots self.old.script arena.new.slots self.new.script }
+        ensures first { arena.new.first ≡ arena.old.first }
         ensures paid { OnOk result (IsPaid steps.old self.old.script steps.new self.new.script) }
         ensures at_most { OnErr result (
             IsPaidOrOne steps.old self.old.script steps.new self.new.script) }
@@ -150,8 +151,9 @@ impl ChangeReader {
     /// The run of the new list ends: its text is the one that it keeps, or one that is made.
     fn end_run<L: Ledger>(&mut self, arena: &mut Arena, steps: &mut Steps<L>) -> Result<(), Memory>
         requires { letters_in self.old.run < 2 ^ 64 }
-        ensures ends { OnOk result (RunEnds arena.old arena.new self.old [] self.new) }
-        ensures made { MakesOn arena.old self.old.script arena.new self.new.script }
+        ensures ends { OnOk result (RunEnds arena.old.slots arena.new.slots self.old [] self.new) }
+        ensures made { MakesOn arena.old.slots self.old.script arena.new.slots self.new.script }
+        ensures first { arena.new.first ≡ arena.old.first }
         ensures paid { OnOk result (IsPaid steps.old self.old.script steps.new self.new.script) }
         ensures at_most { OnErr result (
             IsPaidOrOne steps.old self.old.script steps.new self.new.script) }
@@ -176,8 +178,10 @@ impl ChangeReader {
     ) -> Result<(), Memory>
         requires fits { letters_in self.old.run < 2 ^ 64 }
         requires plain { node_of How.Put step ≡ None }
-        ensures ends { OnOk result (RunEnds arena.old arena.new self.old (step ∷ []) self.new) }
-        ensures made { MakesOn arena.old self.old.script arena.new self.new.script }
+        ensures ends { OnOk result (
+            RunEnds arena.old.slots arena.new.slots self.old (step ∷ []) self.new) }
+        ensures made { MakesOn arena.old.slots self.old.script arena.new.slots self.new.script }
+        ensures first { arena.new.first ≡ arena.old.first }
         ensures paid { OnOk result (IsPaid steps.old self.old.script steps.new self.new.script) }
         ensures at_most { OnErr result (
             IsPaidOrOne steps.old self.old.script steps.new self.new.script) }
@@ -196,11 +200,12 @@ impl ChangeReader {
     ) -> Result<NodeId, Memory>
         requires { letters_in self.old.run < 2 ^ 64 }
         ensures ends { IfOk result (λ n.
-            RunEnds arena.old arena.new self.old (put_step (NodeWhat.Node kind) n ∷ [])
+            RunEnds arena.old.slots arena.new.slots self.old (put_step (NodeWhat.Node kind) n ∷ [])
             self.new) }
         ensures node { IfOk result (λ n.
-            slot_at arena.new n.0 ≡ Some (new_node (NodeWhat.Node kind))) }
-        ensures made { MakesOn arena.old self.old.script arena.new self.new.script }
+            slot_at arena.new.slots n.0 ≡ Some (new_node (NodeWhat.Node kind))) }
+        ensures made { MakesOn arena.old.slots self.old.script arena.new.slots self.new.script }
+        ensures first { arena.new.first ≡ arena.old.first }
         ensures paid { OnOk result (IsPaid steps.old self.old.script steps.new self.new.script) }
         ensures at_most { OnErr result (
             IsPaidOrOne steps.old self.old.script steps.new self.new.script) }
@@ -277,12 +282,15 @@ impl ChangeReader {
     ) -> Result<(), Memory>
         requires some { 1 ≤ passed.count }
         requires fits { letters_in self.old.run + passed.count < 2 ^ 64 }
-        ensures read { OnOk result (RetainsPassed arena.old self.old passed arena.new self.new) }
-        ensures made { MakesOn arena.old self.old.script arena.new self.new.script }
+        ensures read { OnOk result (
+            RetainsPassed arena.old.slots self.old passed arena.new.slots self.new) }
+        ensures made { MakesOn arena.old.slots self.old.script arena.new.slots self.new.script }
+        ensures first { arena.new.first ≡ arena.old.first }
         ensures paid { OnOk result (IsPaid steps.old self.old.script steps.new self.new.script) }
         ensures at_most { OnErr result (
             IsPaidOrOne steps.old self.old.script steps.new self.new.script) }
-        ensures part { OnErr result (StopsAtPassed arena.old self.old passed self.new.script) }
+        ensures part { OnErr result (
+            StopsAtPassed arena.old.slots self.old passed self.new.script) }
     {
         self.at = passed.at;
         match passed.what {
@@ -305,21 +313,22 @@ impl ChangeReader {
         steps: &mut Steps<L>,
     ) -> Result<usize, Memory>
         requires some { 1 ≤ most }
-        requires reads { IsReading arena.old self.old most 0 }
+        requires reads { IsReading arena.old.slots self.old most 0 }
         ensures some { IfOk result (λ k. 1 ≤ k) }
         ensures few { IfOk result (λ k. k ≤ most) }
         ensures read { IfOk result (λ k.
             (c : Course)
-            → HasRead c arena.old self.old
+            → HasRead c arena.old.slots self.old
             → most ≤ items_in c.spot.rest
-            → HasRead (with_stays k c) arena.new self.new) }
-        ensures made { MakesOn arena.old self.old.script arena.new self.new.script }
+            → HasRead (with_stays k c) arena.new.slots self.new) }
+        ensures made { MakesOn arena.old.slots self.old.script arena.new.slots self.new.script }
+        ensures first { arena.new.first ≡ arena.old.first }
         ensures paid { OnOk result (IsPaid steps.old self.old.script steps.new self.new.script) }
         ensures at_most { OnErr result (
             IsPaidOrOne steps.old self.old.script steps.new self.new.script) }
         ensures part { OnErr result (
             (c : Course)
-            → HasRead c arena.old self.old
+            → HasRead c arena.old.slots self.old
             → most ≤ items_in c.spot.rest
             → IsPart c (replicate most Stay) self.new.script) }
     {
@@ -335,19 +344,20 @@ impl ChangeReader {
         count: usize,
         steps: &mut Steps<L>,
     ) -> Result<(), Memory>
-        requires reads { IsReading arena.old self.old count 0 }
+        requires reads { IsReading arena.old.slots self.old count 0 }
         ensures read { OnOk result (
             (c : Course)
-            → HasRead c arena.old self.old
+            → HasRead c arena.old.slots self.old
             → count ≤ items_in c.spot.rest
-            → HasRead (with_stays count c) arena.new self.new) }
-        ensures made { MakesOn arena.old self.old.script arena.new self.new.script }
+            → HasRead (with_stays count c) arena.new.slots self.new) }
+        ensures made { MakesOn arena.old.slots self.old.script arena.new.slots self.new.script }
+        ensures first { arena.new.first ≡ arena.old.first }
         ensures paid { OnOk result (IsPaid steps.old self.old.script steps.new self.new.script) }
         ensures at_most { OnErr result (
             IsPaidOrOne steps.old self.old.script steps.new self.new.script) }
         ensures part { OnErr result (
             (c : Course)
-            → HasRead c arena.old self.old
+            → HasRead c arena.old.slots self.old
             → count ≤ items_in c.spot.rest
             → IsPart c (replicate count Stay) self.new.script) }
     {
@@ -389,14 +399,14 @@ impl ChangeReader {
     /// Some items go, and at most so many: the answer is how many.
     fn remove_some(&mut self, arena: &Arena, most: usize) -> Result<usize, Memory>
         requires some { 1 ≤ most }
-        requires reads { IsReading arena.now self.old most 0 }
+        requires reads { IsReading arena.now.slots self.old most 0 }
         ensures some { IfOk result (λ k. 1 ≤ k) }
         ensures few { IfOk result (λ k. k ≤ most) }
         ensures read { IfOk result (λ k.
             (c : Course)
-            → HasRead c arena.now self.old
+            → HasRead c arena.now.slots self.old
             → most ≤ items_in c.spot.rest
-            → HasRead (with_gone k c) arena.now self.new) }
+            → HasRead (with_gone k c) arena.now.slots self.new) }
         ensures same { MakesSame self.old.script self.new.script }
     {
         let passed = self.at.pass(arena, most);
@@ -406,12 +416,12 @@ impl ChangeReader {
 
     /// So many items go.
     pub(crate) fn remove(&mut self, arena: &Arena, count: usize) -> Result<(), Memory>
-        requires reads { IsReading arena.now self.old count 0 }
+        requires reads { IsReading arena.now.slots self.old count 0 }
         ensures read { OnOk result (
             (c : Course)
-            → HasRead c arena.now self.old
+            → HasRead c arena.now.slots self.old
             → count ≤ items_in c.spot.rest
-            → HasRead (with_gone count c) arena.now self.new) }
+            → HasRead (with_gone count c) arena.now.slots self.new) }
         ensures same { MakesSame self.old.script self.new.script }
     {
         let mut left = count;
@@ -431,18 +441,19 @@ impl ChangeReader {
         item: Item,
         steps: &mut Steps<L>,
     ) -> Result<(), Memory>
-        requires reads { IsReading arena.old self.old 0 1 }
+        requires reads { IsReading arena.old.slots self.old 0 1 }
         ensures read { OnOk result (
             (c : Course)
-            → HasRead c arena.old self.old
-            → HaveCome (item ∷ []) c arena.new self.new) }
-        ensures made { MakesOn arena.old self.old.script arena.new self.new.script }
+            → HasRead c arena.old.slots self.old
+            → HaveCome (item ∷ []) c arena.new.slots self.new) }
+        ensures made { MakesOn arena.old.slots self.old.script arena.new.slots self.new.script }
+        ensures first { arena.new.first ≡ arena.old.first }
         ensures paid { OnOk result (IsPaid steps.old self.old.script steps.new self.new.script) }
         ensures at_most { OnErr result (
             IsPaidOrOne steps.old self.old.script steps.new self.new.script) }
         ensures part { OnErr result (
             (c : Course)
-            → HasRead c arena.old self.old
+            → HasRead c arena.old.slots self.old
             → IsPart c (come (item ∷ []) []) self.new.script) }
     {
         match item {
@@ -465,18 +476,19 @@ impl ChangeReader {
         items: &[Item],
         steps: &mut Steps<L>,
     ) -> Result<(), Memory>
-        requires reads { IsReading arena.old self.old 0 (length items.now) }
+        requires reads { IsReading arena.old.slots self.old 0 (length items.now) }
         ensures read { OnOk result (
             (c : Course)
-            → HasRead c arena.old self.old
-            → HaveCome items.now c arena.new self.new) }
-        ensures made { MakesOn arena.old self.old.script arena.new self.new.script }
+            → HasRead c arena.old.slots self.old
+            → HaveCome items.now c arena.new.slots self.new) }
+        ensures made { MakesOn arena.old.slots self.old.script arena.new.slots self.new.script }
+        ensures first { arena.new.first ≡ arena.old.first }
         ensures paid { OnOk result (IsPaid steps.old self.old.script steps.new self.new.script) }
         ensures at_most { OnErr result (
             IsPaidOrOne steps.old self.old.script steps.new self.new.script) }
         ensures part { OnErr result (
             (c : Course)
-            → HasRead c arena.old self.old
+            → HasRead c arena.old.slots self.old
             → IsPart c (come items.now []) self.new.script) }
     {
         for item in items {
@@ -493,15 +505,18 @@ impl ChangeReader {
         arena: &mut Arena,
         steps: &mut Steps<L>,
     ) -> Result<(), Memory>
-        requires reads { IsReading arena.old self.old 0 0 }
+        requires reads { IsReading arena.old.slots self.old 0 0 }
         ensures read { OnOk result (
-            (c : Course) → HasRead c arena.old self.old → IsReadOut c arena.new self.new) }
-        ensures made { MakesOn arena.old self.old.script arena.new self.new.script }
+            (c : Course)
+            → HasRead c arena.old.slots self.old
+            → IsReadOut c arena.new.slots self.new) }
+        ensures made { MakesOn arena.old.slots self.old.script arena.new.slots self.new.script }
+        ensures first { arena.new.first ≡ arena.old.first }
         ensures paid { OnOk result (IsPaid steps.old self.old.script steps.new self.new.script) }
         ensures at_most { OnErr result (
             IsPaidOrOne steps.old self.old.script steps.new self.new.script) }
         ensures part { OnErr result (
-            (c : Course) → HasRead c arena.old self.old → IsPartOut [] c self.new.script) }
+            (c : Course) → HasRead c arena.old.slots self.old → IsPartOut [] c self.new.script) }
     {
         let count = self.at.rest_of_text(arena);
         self.retain(arena, count, steps)?;
@@ -516,18 +531,19 @@ impl ChangeReader {
         inserted: &[Item],
         steps: &mut Steps<L>,
     ) -> Result<(), Memory>
-        requires reads { IsReading arena.old self.old removed (length inserted.now) }
+        requires reads { IsReading arena.old.slots self.old removed (length inserted.now) }
         ensures read { OnOk result (
             (c : Course)
-            → HasRead c arena.old self.old
+            → HasRead c arena.old.slots self.old
             → removed ≤ items_in c.spot.rest
-            → HaveCome inserted.now (with_gone removed c) arena.new self.new) }
-        ensures made { MakesOn arena.old self.old.script arena.new self.new.script }
+            → HaveCome inserted.now (with_gone removed c) arena.new.slots self.new) }
+        ensures made { MakesOn arena.old.slots self.old.script arena.new.slots self.new.script }
+        ensures first { arena.new.first ≡ arena.old.first }
         ensures paid { OnOk result (IsPaid steps.old self.old.script steps.new self.new.script) }
         ensures at_most { OnErr result (
             IsPaidOrOne steps.old self.old.script steps.new self.new.script) }
         ensures part { OnErr result (
-            StopsAtReplace arena.old self.old removed inserted.now self.new.script) }
+            StopsAtReplace arena.old.slots self.old removed inserted.now self.new.script) }
     {
         self.remove(arena, removed)?;
         self.insert(arena, inserted, steps)
@@ -539,20 +555,21 @@ impl ChangeReader {
         op: &Op,
         steps: &mut Steps<L>,
     ) -> Result<(), Memory>
-        requires reads { IsReading arena.old self.old (old_size (op.now ∷ [])) (
+        requires reads { IsReading arena.old.slots self.old (old_size (op.now ∷ [])) (
             come_size (op.now ∷ [])) }
         ensures read { OnOk result (
             (c : Course)
-            → HasRead c arena.old self.old
+            → HasRead c arena.old.slots self.old
             → old_size (op.now ∷ []) ≤ items_in c.spot.rest
-            → AreDone (op.now ∷ []) c arena.new self.new) }
-        ensures made { MakesOn arena.old self.old.script arena.new self.new.script }
+            → AreDone (op.now ∷ []) c arena.new.slots self.new) }
+        ensures made { MakesOn arena.old.slots self.old.script arena.new.slots self.new.script }
+        ensures first { arena.new.first ≡ arena.old.first }
         ensures paid { OnOk result (IsPaid steps.old self.old.script steps.new self.new.script) }
         ensures at_most { OnErr result (
             IsPaidOrOne steps.old self.old.script steps.new self.new.script) }
         ensures part { OnErr result (
             (c : Course)
-            → HasRead c arena.old self.old
+            → HasRead c arena.old.slots self.old
             → old_size (op.now ∷ []) ≤ items_in c.spot.rest
             → IsPart c (acts_of (op.now ∷ []) []) self.new.script) }
     {
@@ -572,19 +589,20 @@ impl ChangeReader {
         ops: &[Op],
         steps: &mut Steps<L>,
     ) -> Result<(), Memory>
-        requires reads { IsReading arena.old self.old (old_size ops.now) (come_size ops.now) }
+        requires reads { IsReading arena.old.slots self.old (old_size ops.now) (come_size ops.now) }
         ensures read { OnOk result (
             (c : Course)
-            → HasRead c arena.old self.old
+            → HasRead c arena.old.slots self.old
             → old_size ops.now ≤ items_in c.spot.rest
-            → AreDone ops.now c arena.new self.new) }
-        ensures made { MakesOn arena.old self.old.script arena.new self.new.script }
+            → AreDone ops.now c arena.new.slots self.new) }
+        ensures made { MakesOn arena.old.slots self.old.script arena.new.slots self.new.script }
+        ensures first { arena.new.first ≡ arena.old.first }
         ensures paid { OnOk result (IsPaid steps.old self.old.script steps.new self.new.script) }
         ensures at_most { OnErr result (
             IsPaidOrOne steps.old self.old.script steps.new self.new.script) }
         ensures part { OnErr result (
             (c : Course)
-            → HasRead c arena.old self.old
+            → HasRead c arena.old.slots self.old
             → old_size ops.now ≤ items_in c.spot.rest
             → IsPart c (acts_of ops.now []) self.new.script) }
     {
@@ -602,19 +620,20 @@ impl ChangeReader {
         ops: &[Op],
         steps: &mut Steps<L>,
     ) -> Result<(), Memory>
-        requires reads { IsReading arena.old self.old (old_size ops.now) (come_size ops.now) }
+        requires reads { IsReading arena.old.slots self.old (old_size ops.now) (come_size ops.now) }
         ensures read { OnOk result (
             (c : Course)
-            → HasRead c arena.old self.old
+            → HasRead c arena.old.slots self.old
             → old_size ops.now ≤ items_in c.spot.rest
-            → AreReadOut ops.now c arena.new self.new) }
-        ensures made { MakesOn arena.old self.old.script arena.new self.new.script }
+            → AreReadOut ops.now c arena.new.slots self.new) }
+        ensures made { MakesOn arena.old.slots self.old.script arena.new.slots self.new.script }
+        ensures first { arena.new.first ≡ arena.old.first }
         ensures paid { OnOk result (IsPaid steps.old self.old.script steps.new self.new.script) }
         ensures at_most { OnErr result (
             IsPaidOrOne steps.old self.old.script steps.new self.new.script) }
         ensures part { OnErr result (
             (c : Course)
-            → HasRead c arena.old self.old
+            → HasRead c arena.old.slots self.old
             → old_size ops.now ≤ items_in c.spot.rest
             → IsPartOut ops.now c self.new.script) }
     {

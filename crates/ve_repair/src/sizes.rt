@@ -38,8 +38,8 @@ impl Model for Sizes {
 
 /// The node takes so many items: a write, where it has another length.
 fn resize(arena: &Arena, n: NodeId, len: usize, writes: &mut Vec<Write>) -> Result<(), Memory>
-    requires { IsLive arena.now n }
-    ensures { OnOk result (writes.new.items ≡ writes.old.items ++ resize_of arena.now n len) }
+    requires { IsLive arena.now.slots n }
+    ensures { OnOk result (writes.new.items ≡ writes.old.items ++ resize_of arena.now.slots n len) }
 {
     if arena.node(n).len != len {
         writes.push(Write::Resize { n, len })?;
@@ -54,9 +54,9 @@ fn end_at(
     at: usize,
     writes: &mut Vec<Write>,
 ) -> Result<(), Memory>
-    requires { AllOpenLive arena.now levels.now }
+    requires { AllOpenLive arena.now.slots levels.now }
     ensures { OnOk result (
-        writes.new.items ≡ writes.old.items ++ end_writes arena.now levels.now at) }
+        writes.new.items ≡ writes.old.items ++ end_writes arena.now.slots levels.now at) }
 {
     match levels.top() {
         Some(level) => resize(arena, level.node, at.saturating_sub(level.from), writes),
@@ -142,11 +142,11 @@ impl Sizes {
     }
 
     fn leave_new(&mut self, arena: &Arena, writes: &mut Vec<Write>) -> Result<(), Memory>
-        requires live { AllOpenLive arena.now self.old.new_open }
+        requires live { AllOpenLive arena.now.slots self.old.new_open }
         requires fits { PlacesFit (left How.Put self.old) }
         ensures sizes { OnOk result (self.new ≡ left How.Put self.old) }
         ensures writes { OnOk result (
-            writes.new.items ≡ writes.old.items ++ left_writes arena.now How.Put self.old) }
+            writes.new.items ≡ writes.old.items ++ left_writes arena.now.slots How.Put self.old) }
     {
         self.new_at += 1;
         end_at(arena, &self.new_open, self.new_at, writes)?;
@@ -155,11 +155,11 @@ impl Sizes {
     }
 
     fn leave(&mut self, arena: &Arena, how: How, writes: &mut Vec<Write>) -> Result<(), Memory>
-        requires live { AllOpenLive arena.now self.old.new_open }
+        requires live { AllOpenLive arena.now.slots self.old.new_open }
         requires fits { PlacesFit (left how self.old) }
         ensures sizes { OnOk result (self.new ≡ left how self.old) }
         ensures writes { OnOk result (
-            writes.new.items ≡ writes.old.items ++ left_writes arena.now how self.old) }
+            writes.new.items ≡ writes.old.items ++ left_writes arena.now.slots how self.old) }
     {
         match how {
             How::Keep => {
@@ -194,12 +194,12 @@ impl Sizes {
 
 impl Sizes {
     fn step(&mut self, arena: &Arena, step: Step, writes: &mut Vec<Write>) -> Result<(), Memory>
-        requires live { AllOpenLive arena.now self.old.new_open }
-        requires named { StepIsLive arena.now step }
-        requires fits { PlacesFit (sized arena.now step self.old) }
-        ensures sizes { OnOk result (self.new ≡ sized arena.now step self.old) }
+        requires live { AllOpenLive arena.now.slots self.old.new_open }
+        requires named { StepIsLive arena.now.slots step }
+        requires fits { PlacesFit (sized arena.now.slots step self.old) }
+        ensures sizes { OnOk result (self.new ≡ sized arena.now.slots step self.old) }
         ensures writes { OnOk result (
-            writes.new.items ≡ writes.old.items ++ size_writes arena.now step self.old) }
+            writes.new.items ≡ writes.old.items ++ size_writes arena.now.slots step self.old) }
     {
         match step {
             Step::Enter { how, n } => self.enter(how, n),
@@ -222,12 +222,13 @@ impl Sizes {
         script: &[Step],
         writes: &mut Vec<Write>,
     ) -> Result<(), Memory>
-        requires live { AllOpenLive arena.now self.old.new_open }
-        requires named { StepsAreLive arena.now script.now }
-        requires fits { PlacesFit (sized_all arena.now script.now self.old) }
-        ensures sizes { OnOk result (self.new ≡ sized_all arena.now script.now self.old) }
+        requires live { AllOpenLive arena.now.slots self.old.new_open }
+        requires named { StepsAreLive arena.now.slots script.now }
+        requires fits { PlacesFit (sized_all arena.now.slots script.now self.old) }
+        ensures sizes { OnOk result (self.new ≡ sized_all arena.now.slots script.now self.old) }
         ensures writes { OnOk result (
-            writes.new.items ≡ writes.old.items ++ sizes_writes arena.now script.now self.old) }
+            writes.new.items
+            ≡ writes.old.items ++ sizes_writes arena.now.slots script.now self.old) }
     {
         for step in script {
             self.step(arena, *step, writes)?;
@@ -238,13 +239,13 @@ impl Sizes {
     /// Notes the lengths of the nodes that are open at the end of the range, innermost first: the
     /// rest of the old list is as long as before.
     pub(crate) fn close(&mut self, arena: &Arena, writes: &mut Vec<Write>) -> Result<(), Memory>
-        requires old { AllOpenLive arena.now self.old.old_open }
-        requires new { AllOpenLive arena.now self.old.new_open }
-        requires fits { LengthsFit arena.now self.old.old_open self.old.new_at }
+        requires old { AllOpenLive arena.now.slots self.old.old_open }
+        requires new { AllOpenLive arena.now.slots self.old.new_open }
+        requires fits { LengthsFit arena.now.slots self.old.old_open self.old.new_at }
         ensures { OnOk result (
             writes.new.items
             ≡ writes.old.items
-            ++ open_writes arena.now self.old.old_open self.old.new_open self.old.old_at
+            ++ open_writes arena.now.slots self.old.old_open self.old.new_open self.old.old_at
             self.old.new_at) }
     {
         while let Some(outer) = self.old_open.top() {

@@ -41,9 +41,9 @@ pub(crate) struct Edge {
 
 /// The position, or the start of the text that ends at it.
 fn before_text(tree: &Tree, edge: Edge) -> Edge
-    requires tree { IsSomeTree tree.now.arena tree.now.root }
-    requires between { IsBetweenOf tree.now.arena tree.now.root edge }
-    ensures { IsEdgeOf tree.now.arena tree.now.root edge.place result }
+    requires tree { IsSomeTree tree.now.arena.slots tree.now.root }
+    requires between { IsBetweenOf tree.now.arena.slots tree.now.root edge }
+    ensures { IsEdgeOf tree.now.arena.slots tree.now.root edge.place result }
 {
     let Some(text) = edge.last else {
         return edge;
@@ -63,7 +63,7 @@ fn before_text(tree: &Tree, edge: Edge) -> Edge
 /// A position of the list, or the start of the text that it lies in or that ends at it.
 fn edge_at(tree: &Tree, x: usize) -> Edge
     requires { HasOffset tree.now x }
-    ensures { IsEdgeOf tree.now.arena tree.now.root x result }
+    ensures { IsEdgeOf tree.now.arena.slots tree.now.root x result }
 {
     let spot = tree.spot_at(x);
     let Some(child) = spot.next else {
@@ -127,7 +127,7 @@ fn begin_round(
     requires old_open { sizes.old.old_open ≡ [] }
     requires new_open { sizes.old.new_open ≡ [] }
     ensures open_nodes { OnOk result (
-        OpensRound tree.now.arena tree.now.root n last plan.new.stacks sizes.new) }
+        OpensRound tree.now.arena.slots tree.now.root n last plan.new.stacks sizes.new) }
     ensures writes { OnOk result (plan.new.writes ≡ plan.old.writes) }
 {
     let inner = Opened {
@@ -156,7 +156,7 @@ pub(crate) fn start_at(
     requires old_open { sizes.old.old_open ≡ [] }
     requires new_open { sizes.old.new_open ≡ [] }
     ensures start { IfOk result (λ start.
-        StartsRange tree.now.arena tree.now.root x start plan.new.stacks sizes.new) }
+        StartsRange tree.now.arena.slots tree.now.root x start plan.new.stacks sizes.new) }
     ensures writes { OnOk result (plan.new.writes ≡ plan.old.writes) }
 {
     let edge = edge_at(tree, x);

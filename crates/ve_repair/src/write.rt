@@ -31,10 +31,11 @@ pub enum Write {
 
 /// Makes one of the writes.
 fn make_write<L: Ledger>(arena: &mut Arena, write: Write, steps: &mut Steps<L>)
-    requires live { NamesLive arena.old write }
-    requires leads { AllLead arena.old }
-    ensures wrote { Wrote arena.old arena.new write }
-    ensures leads { AllLead arena.new }
+    requires live { NamesLive arena.old.slots write }
+    requires leads { AllLead arena.old.slots }
+    ensures wrote { Wrote arena.old.slots arena.new.slots write }
+    ensures leads { AllLead arena.new.slots }
+    ensures first { arena.new.first ≡ arena.old.first }
     ensures steps { steps.new ≡ steps.old + cost write }
 {
     match write {
@@ -46,10 +47,11 @@ fn make_write<L: Ledger>(arena: &mut Arena, write: Write, steps: &mut Steps<L>)
 
 /// Makes the writes in their order.
 pub(crate) fn carry_out<L: Ledger>(arena: &mut Arena, writes: &[Write], steps: &mut Steps<L>)
-    requires live { All (NamesLive arena.old) writes.now }
-    requires leads { AllLead arena.old }
-    ensures carried { CarriedOut arena.old arena.new writes.now }
-    ensures leads { AllLead arena.new }
+    requires live { All (NamesLive arena.old.slots) writes.now }
+    requires leads { AllLead arena.old.slots }
+    ensures carried { CarriedOut arena.old.slots arena.new.slots writes.now }
+    ensures leads { AllLead arena.new.slots }
+    ensures first { arena.new.first ≡ arena.old.first }
     ensures steps { steps.new ≡ steps.old + weight writes.now }
 {
     for write in writes {

@@ -1,4 +1,5 @@
 mod IsTreeExamples
+mod TrialExamples
 pub mod GrownLemmas
 pub mod ReadLemmas
 pub mod ReachedLemmas

@@ -61,6 +61,6 @@ shapes_are_tree slots root items others tree e = record {
 
 pub shapes_read : ShapesAreRead
 shapes_read t items others tree e = record {
-  links = shapes_are_tree t.arena t.root items others tree.links e;
+  links = shapes_are_tree t.arena.slots t.root items others tree.links e;
   landmarks = tree.landmarks;
 }

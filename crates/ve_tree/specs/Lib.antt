@@ -12,5 +12,6 @@ pub mod Landmarks
 pub mod Way
 pub mod Gaps
 pub mod TreeOf
+pub mod Trials
 pub mod Shapes
 pub mod Rows

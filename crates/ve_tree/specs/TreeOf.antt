@@ -9,8 +9,8 @@ use Rattle.ve_tree.specs.Places.{IsInTree}
 
 -- Its linked nodes are the tree of the list, and its landmarks are where they are said to be.
 pub record IsTreeOf (t : Tree) (items : List PlainItem) : Type 0 where
-  pub links : IsTree t.arena t.root items
-  pub landmarks : AreLandmarks t.arena t.root t.landmarks
+  pub links : IsTree t.arena.slots t.root items
+  pub landmarks : AreLandmarks t.arena.slots t.root t.landmarks
 
 -- it is the tree of some list, and the offset is one of that list
 pub record HasOffset (t : Tree) (o : ℕ) : Type 0 where
@@ -20,5 +20,5 @@ pub record HasOffset (t : Tree) (o : ℕ) : Type 0 where
 
 -- it is the tree of some list, and the node is one of its nodes
 pub record HasNode (t : Tree) (n : NodeId) : Type 0 where
-  pub node : IsInTree t.arena t.root n
-  pub landmarks : AreLandmarks t.arena t.root t.landmarks
+  pub node : IsInTree t.arena.slots t.root n
+  pub landmarks : AreLandmarks t.arena.slots t.root t.landmarks

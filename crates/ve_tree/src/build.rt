@@ -20,16 +20,17 @@ pub(crate) fn make_first<L: Ledger>(
     parent: NodeId,
     steps: &mut Steps<L>,
 ) -> Result<NodeId, Memory>
-    requires live { IsLive arena.old parent }
-    requires next_live { IfSome (first_in (slot_at arena.old parent.0)) (λ next.
-        IsLive arena.old next) }
-    requires next_apart { IfSome (first_in (slot_at arena.old parent.0)) (λ next.
+    requires live { IsLive arena.old.slots parent }
+    requires next_live { IfSome (first_in (slot_at arena.old.slots parent.0)) (λ next.
+        IsLive arena.old.slots next) }
+    requires next_apart { IfSome (first_in (slot_at arena.old.slots parent.0)) (λ next.
         next.0 ≢ parent.0) }
-    ensures vacant { IfOk result (λ n. slot_at arena.old n.0 ≡ None) }
+    ensures vacant { IfOk result (λ n. slot_at arena.old.slots n.0 ≡ None) }
     ensures made { IfOk result (λ n.
-        MadeFirst (first_in (slot_at arena.old parent.0)) arena.old arena.new n.0 parent.0
-        what) }
+        MadeFirst (first_in (slot_at arena.old.slots parent.0)) arena.old.slots arena.new.slots
+        n.0 parent.0 what) }
     ensures err { OnErr result (arena.new ≡ arena.old) }
+    ensures first { arena.new.first ≡ arena.old.first }
     ensures counted { steps.old ≤ steps.new }
     ensures steps { steps.new ≤ steps.old + 5 }
     ensures paid { OnOk result (steps.old + 5 ≤ steps.new) }
@@ -70,13 +71,15 @@ pub fn read_children<L: Ledger>(
     parent: NodeId,
     steps: &mut Steps<L>,
 ) -> Result<(), Memory>
-    requires childless { IsChildless arena.old parent.0 }
+    requires childless { IsChildless arena.old.slots parent.0 }
     requires within { rest.old.left ≤ length rest.old.items }
     requires lawful { Lawful (unvalued rest.old.items) }
     requires begun { (reading_from rest.old.items rest.old.left).here ≡ forest.Empty }
     ensures items { OnOk result (rest.new.items ≡ rest.old.items) }
     ensures read { OnOk result (
-        ReadChildren arena.old arena.new parent.0 rest.old.items rest.new.left rest.old.left) }
+        ReadChildren arena.old.slots arena.new.slots parent.0 rest.old.items rest.new.left
+        rest.old.left) }
+    ensures first { arena.new.first ≡ arena.old.first }
     ensures steps_ok { OnOk result (
         TookSteps rest.old.items rest.new.left rest.old.left steps.old steps.new) }
     ensures counted { steps.old ≤ steps.new }

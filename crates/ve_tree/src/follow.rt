@@ -16,12 +16,12 @@ impl Tree {
     /// the tree of the new list.
     pub fn follow(&mut self, from: usize, to: usize, len: usize)
         requires order { from ≤ to }
-        requires tree { IsSomeTree self.old.arena self.old.root }
-        requires may { MayFollow self.old.arena self.old.root self.old.landmarks from to len }
+        requires tree { IsSomeTree self.old.arena.slots self.old.root }
+        requires may { MayFollow self.old.arena.slots self.old.root self.old.landmarks from to len }
         ensures arena { self.new.arena ≡ self.old.arena }
         ensures root { self.new.root ≡ self.old.root }
         ensures tree { (items : List PlainItem)
-            → IsTree self.old.arena self.old.root items
+            → IsTree self.old.arena.slots self.old.root items
             → IsTreeOf self.new items }
     {
         let was = self.landmarks.len();

@@ -138,6 +138,14 @@ impl Landmarks {
         }
     }
 
+    /// Takes all landmarks out. Their memory stays, so that as many can be put in again.
+    pub(crate) fn clear(&mut self)
+        ensures { self.new ≡ record { nodes = []; gaps = [] } }
+    {
+        self.nodes.clear();
+        self.gaps.take_out(0, self.gaps.len());
+    }
+
     /// The last landmark that begins at an offset or before it, and where it begins.
     pub fn before(&self, o: usize) -> Option<(NodeId, usize)>
         ensures { IfSome result (λ mark. IsLandmarkBefore self.now o mark.0 mark.1) }

@@ -3,8 +3,8 @@
 //! of VisualEditor's `ve.dm`.
 //!
 //! Proved: linked nodes are the list's tree. Building takes at most 6 steps for each node and 2
-//! more, and a copy one for each node. Links decide the tree, and a tree shows the shapes of items
-//! alone.
+//! more, and a copy one for each node. A trial that is taken back leaves the nodes as they were when
+//! it began. Links decide the tree, and a tree shows the shapes of items alone.
 //!
 //! It knows a node's kind, length and links, and where some nodes, the landmarks, begin. It doesn't
 //! know the items: it is the tree of every list whose items have the same shapes
@@ -18,10 +18,17 @@
 //! came and went. The others keep their positions: the one gap that a change stands in grows or
 //! shrinks with it.
 //!
+//! Changes of nodes can be tried. `begin_trial` begins a trial, and it ends by `keep` with the nodes
+//! as they are, or by `take_back` with those that were there when it began, each under its number.
+//! In between they need be no tree, so nothing has to be put right before they are taken back. That
+//! takes no memory and can't fail. The landmarks are then found anew by one walk over the tree,
+//! since those of the changed tree may be wrong.
+//!
 //! Definitions, in reading order: `Links` and `Named` (links, forests with numbers), `IsTree`
 //! (linked nodes are the tree of a list), `Places` (where nodes begin and end), `Landmarks`,
-//! `TreeOf` (what each call asks of a tree). `Spots` is the innermost node round an offset with its
-//! child there, `Rows` the nodes round a position of a forest. The others serve private functions.
+//! `TreeOf` (what each call asks of a tree), `Trials` (an arena in which a trial begins). `Spots` is
+//! the innermost node round an offset with its child there, `Rows` the nodes round a position of a
+//! forest. The others serve private functions.
 //! `Grown` and `Lent` are how a tree is built and a list read from its end. `Way` is how far nodes
 //! lie before an offset, `Gaps` what lies between two landmarks. Laws: `links_are_read` (`Reads`),
 //! `children_lists_fit` (`Fits`), `nodes_are_linked` (`Nodes`), `shapes_are_read` (`Shapes`).
@@ -41,6 +48,7 @@ mod laws;
 mod lookup;
 mod mark;
 mod tree;
+mod trial;
 mod unread;
 
 pub use laws::{children_lists_fit, links_are_read, nodes_are_linked, shapes_are_read};

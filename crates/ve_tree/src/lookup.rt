@@ -23,9 +23,9 @@ pub struct Spot {
 /// parent, the node, or one inside it.
 fn spot_inside(tree: &Tree, near: NodeId, left: usize, o: usize) -> Spot
     requires offset { HasOffset tree.now o }
-    requires near { IsBefore tree.now.arena tree.now.root o near left }
-    requires inside { IsInside tree.now.arena near left }
-    ensures { IsSpotOf tree.now.arena tree.now.root o result }
+    requires near { IsBefore tree.now.arena.slots tree.now.root o near left }
+    requires inside { IsInside tree.now.arena.slots near left }
+    ensures { IsSpotOf tree.now.arena.slots tree.now.root o result }
 {
     let Some(parent) = tree.arena.node(near).parent else {
         unreachable!()
@@ -74,8 +74,8 @@ fn spot_inside(tree: &Tree, near: NodeId, left: usize, o: usize) -> Spot
 /// passes an item at least, so there are no more than lie between the two positions.
 pub fn spot_near(tree: &Tree, near: NodeId, left: usize, o: usize) -> Spot
     requires offset { HasOffset tree.now o }
-    requires near { IsBefore tree.now.arena tree.now.root o near left }
-    ensures { IsSpotOf tree.now.arena tree.now.root o result }
+    requires near { IsBefore tree.now.arena.slots tree.now.root o near left }
+    ensures { IsSpotOf tree.now.arena.slots tree.now.root o result }
 {
     let len = tree.arena.node(near).len;
     if left < len {
@@ -114,9 +114,9 @@ pub fn spot_near(tree: &Tree, near: NodeId, left: usize, o: usize) -> Spot
 /// end. It is the next sibling of the innermost node round it that has one. With it, how many items
 /// lie from its start to the list's end.
 pub fn following(arena: &Arena, root: NodeId, n: NodeId, left: usize) -> Option<(NodeId, usize)>
-    requires tree { IsSomeTree arena.now root }
-    requires ends { EndsBeforeEnd arena.now root n left }
-    ensures begins { IfSome result (λ next. IsBeforeEnd arena.now root next.0 next.1) }
+    requires tree { IsSomeTree arena.now.slots root }
+    requires ends { EndsBeforeEnd arena.now.slots root n left }
+    ensures begins { IfSome result (λ next. IsBeforeEnd arena.now.slots root next.0 next.1) }
     ensures farther { IfSome result (λ next. next.1 ≤ left) }
 {
     let mut left = left;

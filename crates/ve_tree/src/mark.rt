@@ -1,5 +1,5 @@
 // The choice of landmarks among a tree's nodes.
-ghost use Rattle.std.specs.Prelude.{◌≤◌, ◌<◌, IfOk, IfErr, IfSome};
+ghost use Rattle.std.specs.Prelude.{◌≡◌, ◌≤◌, ◌<◌, [], IfOk, IfErr, IfSome};
 ghost use Rattle.ve_tree.specs.Landmarks.{AreLandmarks};
 ghost use Rattle.ve_tree.specs.Way.{IsSomeTree, IsBeforeEnd};
 ghost use Rattle.ve_tree.specs.Gaps.{IsGap};
@@ -17,8 +17,8 @@ const STRIDE: usize = 192;
 /// The first node of a tree under its root, and how many items lie from its start to the list's
 /// end: all.
 fn first_ahead(arena: &Arena, root: NodeId) -> Option<(NodeId, usize)>
-    requires { IsSomeTree arena.now root }
-    ensures { IfSome result (λ next. IsBeforeEnd arena.now root next.0 next.1) }
+    requires { IsSomeTree arena.now.slots root }
+    ensures { IfSome result (λ next. IsBeforeEnd arena.now.slots root next.0 next.1) }
 {
     let top = arena.node(root);
     let first = top.first?;
@@ -28,9 +28,9 @@ fn first_ahead(arena: &Arena, root: NodeId) -> Option<(NodeId, usize)>
 /// The node to look at after one: its first child, if it is long, else the one that begins next
 /// after its end. And how many items lie from its start to the list's end.
 fn next_ahead(arena: &Arena, root: NodeId, n: NodeId, left: usize) -> Option<(NodeId, usize)>
-    requires tree { IsSomeTree arena.now root }
-    requires begins { IsBeforeEnd arena.now root n left }
-    ensures begins { IfSome result (λ next. IsBeforeEnd arena.now root next.0 next.1) }
+    requires tree { IsSomeTree arena.now.slots root }
+    requires begins { IsBeforeEnd arena.now.slots root n left }
+    ensures begins { IfSome result (λ next. IsBeforeEnd arena.now.slots root next.0 next.1) }
     ensures farther { IfSome result (λ next. next.1 < left) }
 {
     let node = arena.node(n);
@@ -58,10 +58,10 @@ fn gap_after(
     root: NodeId,
     k: usize,
 ) -> Option<(Gap, (NodeId, usize))>
-    requires tree { IsSomeTree arena.now root }
-    requires are { AreLandmarks arena.now root marks.now }
-    ensures gap { IfSome result (λ found. IsGap arena.now root marks.now found.0) }
-    ensures begins { IfSome result (λ found. IsBeforeEnd arena.now root found.1.0 found.1.1) }
+    requires tree { IsSomeTree arena.now.slots root }
+    requires are { AreLandmarks arena.now.slots root marks.now }
+    ensures gap { IfSome result (λ found. IsGap arena.now.slots root marks.now found.0) }
+    ensures begins { IfSome result (λ found. IsBeforeEnd arena.now.slots root found.1.0 found.1.1) }
     ensures order { IfSome result (λ found. found.1.1 ≤ found.0.from) }
 {
     let (n, start) = marks.get(k)?;
@@ -96,14 +96,14 @@ fn offer(
     n: NodeId,
     left: usize,
 ) -> Result<Gap, Memory>
-    requires tree { IsSomeTree arena.now root }
-    requires begins { IsBeforeEnd arena.now root n left }
-    requires gap { IsGap arena.now root marks.old gap }
+    requires tree { IsSomeTree arena.now.slots root }
+    requires begins { IsBeforeEnd arena.now.slots root n left }
+    requires gap { IsGap arena.now.slots root marks.old gap }
     requires after { left ≤ gap.from }
     requires before { gap.to < left }
-    ensures gap { IfOk result (λ rest. IsGap arena.now root marks.new rest) }
+    ensures gap { IfOk result (λ rest. IsGap arena.now.slots root marks.new rest) }
     ensures ends { IfOk result (λ rest. left ≤ rest.from) }
-    ensures err { IfErr result (λ want. AreLandmarks arena.now root marks.new) }
+    ensures err { IfErr result (λ want. AreLandmarks arena.now.slots root marks.new) }
 {
     let space = gap.from - left;
     if space + arena.node(n).len <= STRIDE {
@@ -121,9 +121,9 @@ fn offer(
 /// than a stride. Each node that ends more than a stride after the landmark before it becomes one.
 /// Where there is no memory for one, there are no more: they are needed for speed alone.
 pub fn thicken(marks: &mut Landmarks, arena: &Arena, root: NodeId, k: usize)
-    requires tree { IsSomeTree arena.now root }
-    requires are { AreLandmarks arena.now root marks.old }
-    ensures { AreLandmarks arena.now root marks.new }
+    requires tree { IsSomeTree arena.now.slots root }
+    requires are { AreLandmarks arena.now.slots root marks.old }
+    ensures { AreLandmarks arena.now.slots root marks.new }
 {
     let Some((gap, first)) = gap_after(marks, arena, root, k) else {
         return;
@@ -142,16 +142,25 @@ pub fn thicken(marks: &mut Landmarks, arena: &Arena, root: NodeId, k: usize)
     }
 }
 
+/// Puts landmarks where there are none: the root, and those in the gap after it.
+pub fn fill(marks: &mut Landmarks, arena: &Arena, root: NodeId)
+    requires tree { IsSomeTree arena.now.slots root }
+    requires none { marks.old ≡ record { nodes = []; gaps = [] } }
+    ensures { AreLandmarks arena.now.slots root marks.new }
+{
+    let Ok(()) = marks.insert(0, root, 0) else {
+        return;
+    };
+    thicken(marks, arena, root, 0);
+    marks.rank(0, 0, 0);
+}
+
 /// The landmarks of a tree: the root, and those in the gap after it.
 pub fn landmarks_of(alloc: Global, arena: &Arena, root: NodeId) -> Landmarks
-    requires { IsSomeTree arena.now root }
-    ensures { AreLandmarks arena.now root result }
+    requires { IsSomeTree arena.now.slots root }
+    ensures { AreLandmarks arena.now.slots root result }
 {
     let mut marks = Landmarks::new(alloc);
-    let Ok(()) = marks.insert(0, root, 0) else {
-        return marks;
-    };
-    thicken(&mut marks, arena, root, 0);
-    marks.rank(0, 0, 0);
+    fill(&mut marks, arena, root);
     marks
 }

@@ -1,9 +1,9 @@
 // The tree of a list.
-ghost use Rattle.std.specs.Prelude.{◌≡◌, ◌+◌, ◌*◌, ◌≤◌, List, Some, IfOk, option_map, length};
+ghost use Rattle.std.specs.Prelude.{◌≡◌, ◌+◌, ◌*◌, ◌≤◌, List, None, Some, IfOk, option_map, length};
 ghost use Rattle.model_items.specs.Law.{Lawful};
 ghost use Rattle.model_items.specs.declared.plain_item.PlainItem.{PlainItem};
 ghost use Rattle.model_items.specs.Tree.{tree_of, node_count, number_of_nodes};
-ghost use Rattle.ve_arena.specs.Arena.{IsLive};
+ghost use Rattle.ve_arena.specs.Arena.{IsLive, settled};
 ghost use Rattle.ve_tree.specs.Links.{number_of};
 ghost use Rattle.ve_tree.specs.IsTree.{IsTree, unvalued};
 ghost use Rattle.ve_tree.specs.Places.{sort_of, IsNodeRound, OfItsPlace, IsBranch};
@@ -48,7 +48,7 @@ impl Drop for Tree {
 impl Tree {
     /// The tree of a lawful list: a node for each opening and its closing, one for each longest run
     /// of characters, and the root over all. It takes at most six steps for each node, and two
-    /// more for the root.
+    /// more for the root. No trial runs in it.
     pub fn build<L: Ledger>(
         alloc: Global,
         list: &Linear,
@@ -56,6 +56,7 @@ impl Tree {
     ) -> Result<Tree, Memory>
         requires { Lawful (unvalued list.now.items) }
         ensures tree { IfOk result (λ tree. IsTreeOf tree (unvalued list.now.items)) }
+        ensures first { IfOk result (λ tree. tree.arena.first ≡ None) }
         ensures counted { steps.old ≤ steps.new }
         ensures steps { steps.new ≤ steps.old + cost_of_tree (unvalued list.now.items) }
         ensures six_a_node { steps.new
@@ -74,19 +75,19 @@ impl Tree {
         })
     }
 
-    /// A copy, with each node under its number, and with landmarks of its own. Each node of the
-    /// copy is a step, the root counted, also where there is no memory for it.
+    /// A copy, with each node under its number, and with landmarks of its own. No trial runs in it.
+    /// Each node of the copy is a step, the root counted, also where there is no memory for it.
     pub fn copy<L: Ledger>(&self, alloc: Global, steps: &mut Steps<L>) -> Result<Tree, Memory>
-        requires { IsSomeTree self.now.arena self.now.root }
-        ensures arena { IfOk result (λ copy. copy.arena ≡ self.now.arena) }
+        requires { IsSomeTree self.now.arena.slots self.now.root }
+        ensures arena { IfOk result (λ copy. copy.arena ≡ settled self.now.arena.slots) }
         ensures root { IfOk result (λ copy. copy.root ≡ self.now.root) }
         ensures tree { IfOk result (λ copy.
             (items : List PlainItem)
-            → IsTree self.now.arena self.now.root items
+            → IsTree self.now.arena.slots self.now.root items
             → IsTreeOf copy items) }
         ensures counted { steps.old ≤ steps.new }
         ensures step_a_node { (items : List PlainItem)
-            → IsTree self.now.arena self.now.root items
+            → IsTree self.now.arena.slots self.now.root items
             → steps.new ≡ steps.old + number_of_nodes items }
     {
         let arena = self.arena.copy(steps)?;
@@ -103,7 +104,7 @@ impl Tree {
     /// landmark before the offset, and reads no item.
     pub fn node_at(&self, o: usize) -> NodeId
         requires { HasOffset self.now o }
-        ensures { IsNodeRound self.now.arena self.now.root o result }
+        ensures { IsNodeRound self.now.arena.slots self.now.root o result }
     {
         self.spot_at(o).node
     }
@@ -113,7 +114,7 @@ impl Tree {
     /// none at the end of what is inside the node. It goes as `node_at` does.
     pub fn spot_at(&self, o: usize) -> Spot
         requires { HasOffset self.now o }
-        ensures { IsSpotOf self.now.arena self.now.root o result }
+        ensures { IsSpotOf self.now.arena.slots self.now.root o result }
     {
         if let Some((near, from)) = self.landmarks.before(o)
             && near.0 != self.root.0
@@ -132,9 +133,9 @@ impl Tree {
 
     /// The kind of a node. A text node has no kind.
     pub fn kind_of(&self, n: NodeId) -> Kind
-        requires { IsBranch self.now.arena n }
-        ensures arena { sort_of self.now.arena n ≡ Some (NodeWhat.Node result) }
-        ensures place { OfItsPlace self.now.arena self.now.root n (λ place.
+        requires { IsBranch self.now.arena.slots n }
+        ensures arena { sort_of self.now.arena.slots n ≡ Some (NodeWhat.Node result) }
+        ensures place { OfItsPlace self.now.arena.slots self.now.root n (λ place.
             place.sort ≡ NodeWhat.Node result) }
     {
         match self.arena.node(n).what {
@@ -145,8 +146,8 @@ impl Tree {
 
     /// The node that a node stands in, and none for the root.
     pub fn parent_of(&self, n: NodeId) -> Option<NodeId>
-        requires { IsLive self.now.arena n }
-        ensures { OfItsPlace self.now.arena self.now.root n (λ place.
+        requires { IsLive self.now.arena.slots n }
+        ensures { OfItsPlace self.now.arena.slots self.now.root n (λ place.
             place.parent ≡ option_map number_of result) }
     {
         self.arena.node(n).parent
@@ -157,7 +158,7 @@ impl Tree {
     /// item.
     pub fn range_of(&self, n: NodeId) -> (usize, usize)
         requires { HasNode self.now n }
-        ensures { OfItsPlace self.now.arena self.now.root n (λ place.
+        ensures { OfItsPlace self.now.arena.slots self.now.root n (λ place.
             result ≡ (place.from, place.to)) }
     {
         let all = self.arena.node(self.root).len;

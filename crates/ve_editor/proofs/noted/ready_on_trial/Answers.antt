@@ -38,7 +38,7 @@ returns-in-Err-with_entry-clause-steps g c =
 pub returns-in-Ok-with_entry-clause-numbers : goal.returns-in-Ok-with_entry-clause-numbers
 returns-in-Ok-with_entry-clause-numbers g c =
     let t = c.args.tree.now in
-    subst (KeepsNumbers t.arena c.with_entry.new.tree.arena t.root c.args.draft.now.tx) (c.noted.ensures.items ∙ c.in_ok-change.ensures.items) c.in-Ok-with_entry.ensures.numbers
+    subst (KeepsNumbers t.arena.slots c.with_entry.new.tree.arena.slots t.root c.args.draft.now.tx) (c.noted.ensures.items ∙ c.in_ok-change.ensures.items) c.in-Ok-with_entry.ensures.numbers
 
 pub returns-in-Ok-with_entry-clause-steps_if_allowed : goal.returns-in-Ok-with_entry-clause-steps_if_allowed
 returns-in-Ok-with_entry-clause-steps_if_allowed g c =

@@ -22,7 +22,7 @@ returns-in-Ok-clause-ok g c =
 pub returns-in-Ok-clause-numbers : goal.returns-in-Ok-clause-numbers
 returns-in-Ok-clause-numbers g c =
     let t = c.args.tree.now in
-    subst (KeepsNumbers t.arena c.with_entry.new.tree.arena t.root c.args.draft.now.tx) c.in_ok-change.ensures.items c.in-Ok.ensures.numbers
+    subst (KeepsNumbers t.arena.slots c.with_entry.new.tree.arena.slots t.root c.args.draft.now.tx) c.in_ok-change.ensures.items c.in-Ok.ensures.numbers
 
 pub returns-in-Ok-clause-steps : goal.returns-in-Ok-clause-steps
 returns-in-Ok-clause-steps g c =

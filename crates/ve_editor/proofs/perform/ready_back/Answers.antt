@@ -67,4 +67,4 @@ returns-in_err-prepare-in-Ok-clause-steps g c =
 pub returns-in_ok-prepare-in-Ok-clause-numbers : goal.returns-in_ok-prepare-in-Ok-clause-numbers
 returns-in_ok-prepare-in-Ok-clause-numbers g c =
     let t = c.args.tree.now in
-    subst (KeepsNumbers t.arena c.prepare.new.tree.arena t.root c.args.tx.now) c.in-Ok.ensures.items c.in_ok-prepare-in-Ok.ensures.numbers
+    subst (KeepsNumbers t.arena.slots c.prepare.new.tree.arena.slots t.root c.args.tx.now) c.in-Ok.ensures.items c.in_ok-prepare-in-Ok.ensures.numbers

@@ -8,18 +8,18 @@ pub read-requires : goal.read-requires
 read-requires g c = record {
   reads =
       let m = c.requires.reads in
-      reads_ops c.args.arena.now c.retain.new.arena c.args.reader.now c.retain.new.self c.args.front c.args.ops.now m
+      reads_ops c.args.arena.now.slots c.retain.new.arena.slots c.args.reader.now c.retain.new.self c.args.front c.args.ops.now m
       (c.in_ok-retain.ensures.read m.course m.read (front_enough m.course c.args.front c.args.ops.now m.enough));
 }
 
 pub returns-clause-read : goal.returns-clause-read
 returns-clause-read g c =
-    all_read c.read.result c.args.arena.now c.retain.new.arena c.read.new.arena c.args.reader.now c.retain.new.self c.read.new.self c.args.front c.args.ops.now
+    all_read c.read.result c.args.arena.now.slots c.retain.new.arena.slots c.read.new.arena.slots c.args.reader.now c.retain.new.self c.read.new.self c.args.front c.args.ops.now
     c.in_ok-retain.ensures.read c.read.ensures.read
 
 pub returns-clause-made : goal.returns-clause-made
 returns-clause-made g c =
-    makes_then c.args.arena.now c.retain.new.arena c.read.new.arena c.args.reader.now.script c.retain.new.self.script c.read.new.self.script
+    makes_then c.args.arena.now.slots c.retain.new.arena.slots c.read.new.arena.slots c.args.reader.now.script c.retain.new.self.script c.read.new.self.script
     c.retain.ensures.made c.read.ensures.made
 
 pub returns-in_err-retain-clause-part : goal.returns-in_err-retain-clause-part

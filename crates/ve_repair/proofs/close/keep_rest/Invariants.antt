@@ -7,7 +7,7 @@ use Rattle.ve_repair.proofs.close.keep_rest.Given as goal
 
 abbrev pub invariant-loop-next : goal.invariant-loop-next
 invariant-loop-next l =
-    (f : Named) → IsRowFrom l.arena l.fn.first f → item_count (unnumbered f) ≤ l.fn.most → Resting l.arena f l.initial.plan.stacks l.initial.plan.writes l.next l.left l.plan.stacks l.plan.writes
+    (f : Named) → IsRowFrom l.arena.slots l.fn.first f → item_count (unnumbered f) ≤ l.fn.most → Resting l.arena.slots f l.initial.plan.stacks l.initial.plan.writes l.next l.left l.plan.stacks l.plan.writes
 
 abbrev pub decreases-loop-next : goal.decreases-loop-next
 decreases-loop-next l = l.left

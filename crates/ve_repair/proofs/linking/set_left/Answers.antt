@@ -7,11 +7,11 @@ use Rattle.ve_repair.proofs.linking.set_left.Goals as goal
 
 pub returns-in-Some-clause-links : goal.returns-in-Some-clause-links
 returns-in-Some-clause-links g c =
-    links_of-before c.args.arena.now c.set_before.new.self c.in-Some.right c.args.to
-    (subst (λ o. IfSome o (λ m. IsLive c.args.arena.now m)) c.in-Some.is c.requires.right_live) c.set_before.ensures.write
-    ∙ ap (λ o. set_left c.args.parent.0 (option_map number_of o) (option_map number_of c.args.to) (links_of c.args.arena.now)) (sym c.in-Some.is)
+    links_of-before c.args.arena.now.slots c.set_before.new.self.slots c.in-Some.right c.args.to
+    (subst (λ o. IfSome o (λ m. IsLive c.args.arena.now.slots m)) c.in-Some.is c.requires.right_live) c.set_before.ensures.write
+    ∙ ap (λ o. set_left c.args.parent.0 (option_map number_of o) (option_map number_of c.args.to) (links_of c.args.arena.now.slots)) (sym c.in-Some.is)
 
 pub returns-in-None-clause-links : goal.returns-in-None-clause-links
 returns-in-None-clause-links g c =
-    links_of-last c.args.arena.now c.set_last.new.self c.args.parent c.args.to c.requires.live c.set_last.ensures.write
-    ∙ ap (λ o. set_left c.args.parent.0 (option_map number_of o) (option_map number_of c.args.to) (links_of c.args.arena.now)) (sym c.in-None.is)
+    links_of-last c.args.arena.now.slots c.set_last.new.self.slots c.args.parent c.args.to c.requires.live c.set_last.ensures.write
+    ∙ ap (λ o. set_left c.args.parent.0 (option_map number_of o) (option_map number_of c.args.to) (links_of c.args.arena.now.slots)) (sym c.in-None.is)

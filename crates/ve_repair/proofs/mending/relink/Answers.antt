@@ -1,4 +1,5 @@
 use Rattle.std.proofs.Common.{sym, subst, refl, arith}
+use Rattle.ve_arena.specs.Arena.{ArenaView}
 use Rattle.ve_repair.specs.Range.{KeepItems, IsChangedRange}
 use Rattle.ve_tree.specs.IsTree.{unvalued}
 use Rattle.ve_repair.specs.Change.{new_list}
@@ -17,7 +18,7 @@ returns-in_default-clause-tree g c =
 
 pub returns-in_default-clause-numbers : goal.returns-in_default-clause-numbers
 returns-in_default-clause-numbers g c =
-    keeps_numbers c.args.tree.now.arena c.args.tree.now.root c.args.tx.now c.args.list.now.items (subst KeepItems c.ops.ensures.ops c.in_default.ensures.none)
+    keeps_numbers c.args.tree.now.arena.slots c.args.tree.now.root c.args.tx.now c.args.list.now.items (subst KeepItems c.ops.ensures.ops c.in_default.ensures.none)
 
 pub start_at-requires-clause-place : goal.start_at-requires-clause-place
 start_at-requires-clause-place g c = record {
@@ -52,7 +53,7 @@ follow-requires-clause-tree g c = record {
 
 pub follow-requires-clause-may : goal.follow-requires-clause-may
 follow-requires-clause-may g c =
-    may_follow c.args.tree.now.arena c.relink_nodes.new.arena c.args.tree.now.root c.args.tx.now c.args.list.now.items c.in-Some.range c.args.tree.now.landmarks c.requires.applies
+    may_follow c.args.tree.now.arena.slots c.relink_nodes.new.arena.slots c.args.tree.now.root c.args.tx.now c.args.list.now.items c.in-Some.range c.args.tree.now.landmarks c.requires.applies
     c.ops.ensures.normal (subst (λ l. IsChangedRange l c.in-Some.range) c.ops.ensures.ops c.in-Some.ensures.some) c.requires.tree.links
     c.in_ok-relink_nodes.ensures.links c.in_ok-relink_nodes.ensures.numbers c.requires.tree.landmarks
 
@@ -62,5 +63,5 @@ returns-clause-tree g c = λ values.
 
 pub returns-clause-numbers : goal.returns-clause-numbers
 returns-clause-numbers g c =
-    subst (λ slots. KeepsNumbers c.args.tree.now.arena slots c.args.tree.now.root c.args.tx.now c.args.list.now.items) (sym c.follow.ensures.arena)
+    subst (λ (arena : ArenaView). KeepsNumbers c.args.tree.now.arena.slots arena.slots c.args.tree.now.root c.args.tx.now c.args.list.now.items) (sym c.follow.ensures.arena)
     c.in_ok-relink_nodes.ensures.numbers

@@ -2,4 +2,4 @@ use Rattle.ve_repair.proofs.RoundLemmas.{room_round}
 use Rattle.ve_repair.proofs.start.+begin_round.Given as goal
 
 abbrev pub decreases-begin_round : goal.decreases-begin_round
-decreases-begin_round l = room_round l.tree.now.arena l.tree.now.root.0 l.n.0
+decreases-begin_round l = room_round l.tree.now.arena.slots l.tree.now.root.0 l.n.0

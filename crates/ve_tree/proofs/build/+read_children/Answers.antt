@@ -16,7 +16,8 @@ pub sibling-init : goal.sibling-init
 sibling-init g t c = record {
   same = refl;
   counted = omega arith;
-  reached = reached_start c.args.arena.now c.args.parent.0 c.args.rest.now.items c.args.rest.now.left c.args.steps.now c.requires.childless c.requires.begun;
+  reached = reached_start c.args.arena.now.slots c.args.parent.0 c.args.rest.now.items c.args.rest.now.left c.args.steps.now c.requires.childless c.requires.begun;
+  first = refl;
 }
 
 pub returns-in-Opening-clause-steps : goal.returns-in-Opening-clause-steps
@@ -36,16 +37,17 @@ sibling-preserved-in-Char g t c =
     let some : 0 < c.sibling.rest.left = search rules in
     let same = c.sibling.invariant.same in
     let run = subst (λ items. IsRunFrom items c.pass_run-count.new.rest.left c.sibling.rest.left) same c.pass_run-count.ensures.run in
-    let write = subst (λ len. Changes c.make_first.new.arena c.set_len.new.self (id_of c.in_ok-run-in-Char.run'.0) (with_len len)) c.pass_run-count.ensures.count c.set_len.ensures.write in
+    let write = subst (λ len. Changes c.make_first.new.arena.slots c.set_len.new.self.slots (id_of c.in_ok-run-in-Char.run'.0) (with_len len)) c.pass_run-count.ensures.count c.set_len.ensures.write in
     record {
       same = c.pass_run-count.ensures.items ∙ same;
       counted = omega (arith, c.sibling.invariant.counted, c.in_ok-run-in-Char.ensures.counted, c.set_len.ensures.step);
-      reached = subst (λ s. Reached c.args.arena.now c.set_len.new.self c.args.parent.0 c.args.rest.now.items c.args.rest.now.left c.pass_run-count.new.rest.left c.args.steps.now s)
+      reached = subst (λ s. Reached c.args.arena.now.slots c.set_len.new.self.slots c.args.parent.0 c.args.rest.now.items c.args.rest.now.left c.pass_run-count.new.rest.left c.args.steps.now s)
           (sym c.set_len.ensures.step)
-          (reached_run _ _ c.make_first.new.arena c.set_len.new.self _ c.in_ok-run-in-Char.run'.0 _ _ _ _ _ c.make_first.new.steps c.pass_run-count.new.rest.left
+          (reached_run _ _ c.make_first.new.arena.slots c.set_len.new.self.slots _ c.in_ok-run-in-Char.run'.0 _ _ _ _ _ c.make_first.new.steps c.pass_run-count.new.rest.left
           c.requires.childless c.requires.within c.sibling.invariant.reached (c.sibling.rest.left - 1) c.last.result
           (omega (arith, some)) (item_of _ _ c.sibling.rest.left _ c.last.result _ same refl c.last.ensures refl) (subst IsChar (sym c.in-Char.is) tt)
           c.in_ok-run-in-Char.ensures.vacant c.in_ok-run-in-Char.ensures.made run write c.in_ok-run-in-Char.ensures.steps);
+      first = c.set_len.ensures.first ∙ c.in_ok-run-in-Char.ensures.first ∙ c.sibling.invariant.first;
     }
 
 pub make_first-requires-in-Closing-clause-next_apart : goal.make_first-requires-in-Closing-clause-next_apart
@@ -66,7 +68,7 @@ read_children-requires g t c κs within =
       (
         within,
         (
-          new_childless c.sibling.arena c.make_first-in-Closing.new.arena c.in_ok-node-in-Closing.node.0 c.args.parent.0 (what.Node c.in-Closing.kind) c.in_ok-node-in-Closing.ensures.made,
+          new_childless c.sibling.arena.slots c.make_first-in-Closing.new.arena.slots c.in_ok-node-in-Closing.node.0 c.args.parent.0 (what.Node c.in-Closing.kind) c.in_ok-node-in-Closing.ensures.made,
           (
             omega (arith, c.sibling.invariant.reached.count, c.requires.within, size, c.pass.ensures.left),
             (
@@ -96,7 +98,7 @@ pass-requires-in-Closing g t c =
     let same = c.pass.ensures.items ∙ c.sibling.invariant.same in
     begins_inside _ _ _ _ _ _ _ _ _ _ _ _ c.requires.within c.requires.lawful c.sibling.invariant.reached c.pass.new.self.left c.in-Closing.kind c.in-Closing.pre
     (omega (arith, some, c.pass.ensures.left)) (item_of _ _ c.sibling.rest.left _ c.last.result _ c.sibling.invariant.same c.pass.ensures.left c.last.ensures c.in-Closing.is)
-    (subst (λ items. ReadChildren c.make_first-in-Closing.new.arena c.read_children.new.arena c.in_ok-node-in-Closing.node.0 items c.read_children.new.rest.left c.pass.new.self.left) same
+    (subst (λ items. ReadChildren c.make_first-in-Closing.new.arena.slots c.read_children.new.arena.slots c.in_ok-node-in-Closing.node.0 items c.read_children.new.rest.left c.pass.new.self.left) same
     c.in_ok-read_children-in-Closing.ensures.read)
 
 pub sibling-preserved : goal.sibling-preserved
@@ -105,12 +107,12 @@ sibling-preserved g t c =
     let same = c.pass.ensures.items ∙ c.sibling.invariant.same in
     let from = c.read_children.new.rest.left in
     let len : c.left-end.result - c.left-in-Closing.result ≡ c.sibling.rest.left - (from - 1) = omega (arith, c.left-end.ensures, c.left-in-Closing.ensures, c.pass-in-Closing.ensures.left) in
-    let write = subst (λ len. Changes c.read_children.new.arena c.set_len-in-Closing.new.self (id_of c.in_ok-node-in-Closing.node.0) (with_len len)) len c.set_len-in-Closing.ensures.write in
-    let read = subst (λ items. ReadChildren c.make_first-in-Closing.new.arena c.read_children.new.arena c.in_ok-node-in-Closing.node.0 items from c.pass.new.self.left) same
+    let write = subst (λ len. Changes c.read_children.new.arena.slots c.set_len-in-Closing.new.self.slots (id_of c.in_ok-node-in-Closing.node.0) (with_len len)) len c.set_len-in-Closing.ensures.write in
+    let read = subst (λ items. ReadChildren c.make_first-in-Closing.new.arena.slots c.read_children.new.arena.slots c.in_ok-node-in-Closing.node.0 items from c.pass.new.self.left) same
     c.in_ok-read_children-in-Closing.ensures.read in
     let steps = subst (λ items. c.read_children.new.steps + 6 * count_from items c.pass.new.self.left ≤ c.make_first-in-Closing.new.steps + 6 * count_from items from) same
     c.in_ok-read_children-in-Closing.ensures.steps_ok in
-    let reached = reached_branch _ _ c.make_first-in-Closing.new.arena c.read_children.new.arena c.set_len-in-Closing.new.self _ c.in_ok-node-in-Closing.node.0 _ _ _ _ _
+    let reached = reached_branch _ _ c.make_first-in-Closing.new.arena.slots c.read_children.new.arena.slots c.set_len-in-Closing.new.self.slots _ c.in_ok-node-in-Closing.node.0 _ _ _ _ _
     c.make_first-in-Closing.new.steps c.read_children.new.steps from
     c.requires.childless c.requires.within c.requires.lawful c.sibling.invariant.reached c.pass.new.self.left c.in-Closing.kind c.in-Closing.pre
     (omega (arith, some, c.pass.ensures.left)) (item_of _ _ c.sibling.rest.left _ c.last.result _ c.sibling.invariant.same c.pass.ensures.left c.last.ensures c.in-Closing.is)
@@ -118,8 +120,9 @@ sibling-preserved g t c =
     record {
       same = c.pass-in-Closing.ensures.items ∙ c.in_ok-read_children-in-Closing.ensures.items ∙ same;
       counted = omega (arith, c.sibling.invariant.counted, c.in_ok-node-in-Closing.ensures.counted, c.in_ok-read_children-in-Closing.ensures.counted, c.set_len-in-Closing.ensures.step);
-      reached = subst (λ at. Reached c.args.arena.now c.set_len-in-Closing.new.self c.args.parent.0 c.args.rest.now.items c.args.rest.now.left at c.args.steps.now c.set_len-in-Closing.new.steps)
+      reached = subst (λ at. Reached c.args.arena.now.slots c.set_len-in-Closing.new.self.slots c.args.parent.0 c.args.rest.now.items c.args.rest.now.left at c.args.steps.now c.set_len-in-Closing.new.steps)
           (sym c.pass-in-Closing.ensures.left)
-          (subst (λ s. Reached c.args.arena.now c.set_len-in-Closing.new.self c.args.parent.0 c.args.rest.now.items c.args.rest.now.left (from - 1) c.args.steps.now s)
+          (subst (λ s. Reached c.args.arena.now.slots c.set_len-in-Closing.new.self.slots c.args.parent.0 c.args.rest.now.items c.args.rest.now.left (from - 1) c.args.steps.now s)
           (sym c.set_len-in-Closing.ensures.step) reached);
+      first = c.set_len-in-Closing.ensures.first ∙ c.in_ok-read_children-in-Closing.ensures.first ∙ c.in_ok-node-in-Closing.ensures.first ∙ c.sibling.invariant.first;
     }

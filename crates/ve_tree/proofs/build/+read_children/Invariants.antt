@@ -9,7 +9,8 @@ abbrev pub invariant-sibling : goal.invariant-sibling
 invariant-sibling g l = record {
   same : l.rest.items ≡ l.fn.rest.items;
   counted : l.fn.steps ≤ l.steps;
-  reached : Reached l.fn.arena l.arena l.parent.0 l.fn.rest.items l.fn.rest.left l.rest.left l.fn.steps l.steps;
+  reached : Reached l.fn.arena.slots l.arena.slots l.parent.0 l.fn.rest.items l.fn.rest.left l.rest.left l.fn.steps l.steps;
+  first : l.arena.first ≡ l.fn.arena.first;
 }
 
 abbrev pub decreases-sibling : goal.decreases-sibling

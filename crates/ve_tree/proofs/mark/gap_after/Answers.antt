@@ -25,17 +25,17 @@ overflow_sub-to c = starts_within c.requires.tree c.requires.are (λ items tree.
 
 pub returns-clause-gap : goal.returns-clause-gap
 returns-clause-gap c =
-    let whole : (items : List PlainItem) → IsTree c.args.arena.now c.args.root items → c.node.result.now.len ≡ length items = λ items tree. root_whole tree c.node.result.now c.node.ensures in
+    let whole : (items : List PlainItem) → IsTree c.args.arena.now.slots c.args.root items → c.node.result.now.len ≡ length items = λ items tree. root_whole tree c.node.result.now c.node.ensures in
     let within : c.in_ok-n.start ≤ c.node.result.now.len = starts_within c.requires.tree c.requires.are whole c.in_ok-n.ensures.some in
     let all : Fits w64 c.node.result.now.len = search rules in
     let fits : c.node.result.now.len < 2 ^ 64 = omega (arith, all) in
     elim c.match-get.branch [
       | in-Some w ↦
-          subst (λ (to : ℕ). IsGap c.args.arena.now c.args.root c.args.marks.now (record { next = c.args.k + 1; from = c.node.result.now.len - c.in_ok-n.start; to = to })) (sym w.to-is)
+          subst (λ (to : ℕ). IsGap c.args.arena.now.slots c.args.root c.args.marks.now (record { next = c.args.k + 1; from = c.node.result.now.len - c.in_ok-n.start; to = to })) (sym w.to-is)
           (gap_between _ _ c.args.marks.now c.args.k (c.args.k + 1) _ _ c.in_ok-n.start w.in-Some.end c.node.result.now.len c.requires.are whole fits within
           (starts_within c.requires.tree c.requires.are whole w.in-Some.ensures.some) c.in_ok-n.ensures.some (omega arith) w.in-Some.ensures.some)
       | in-None w ↦
-          subst (λ (to : ℕ). IsGap c.args.arena.now c.args.root c.args.marks.now (record { next = c.args.k + 1; from = c.node.result.now.len - c.in_ok-n.start; to = to })) (sym w.to-is)
+          subst (λ (to : ℕ). IsGap c.args.arena.now.slots c.args.root c.args.marks.now (record { next = c.args.k + 1; from = c.node.result.now.len - c.in_ok-n.start; to = to })) (sym w.to-is)
           (gap_at_end _ _ c.args.marks.now c.args.k (c.args.k + 1) _ c.in_ok-n.start c.node.result.now.len c.requires.are whole fits within c.in_ok-n.ensures.some (omega arith) (w.in-None.ensures.none refl))
     ]
 

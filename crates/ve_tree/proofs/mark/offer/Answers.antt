@@ -19,10 +19,10 @@ overflow_add-space c =
 
 pub insert-requires-clause-space : goal.insert-requires-clause-space
 insert-requires-clause-space c =
-    has_space c.args.arena.now c.args.root c.args.marks.now c.args.gap c.args.left c.requires.tree c.requires.gap c.requires.after c.requires.before
+    has_space c.args.arena.now.slots c.args.root c.args.marks.now c.args.gap c.args.left c.requires.tree c.requires.gap c.requires.after c.requires.before
 
 pub returns-clause-gap : goal.returns-clause-gap
 returns-clause-gap c =
-    subst (λ (next : ℕ). IsGap c.args.arena.now c.args.root c.insert.new.self (record { next = next; from = c.args.left; to = c.args.gap.to })) (omega arith)
-    (gap_filled c.args.arena.now c.args.root c.args.n c.args.marks.now c.insert.new.self c.args.gap c.args.left c.requires.gap c.requires.after c.requires.before c.requires.begins
+    subst (λ (next : ℕ). IsGap c.args.arena.now.slots c.args.root c.insert.new.self (record { next = next; from = c.args.left; to = c.args.gap.to })) (omega arith)
+    (gap_filled c.args.arena.now.slots c.args.root c.args.n c.args.marks.now c.insert.new.self c.args.gap c.args.left c.requires.gap c.requires.after c.requires.before c.requires.begins
     c.in_ok-insert.ensures.ok)

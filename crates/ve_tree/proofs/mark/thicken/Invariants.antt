@@ -10,8 +10,8 @@ still (Some next) = suc next.1
 
 abbrev pub invariant-node : goal.invariant-node
 invariant-node l = record {
-  gap : IsGap l.fn.arena l.fn.root l.marks l.gap;
-  begins : IfSome l.next (λ next. IsBeforeEnd l.fn.arena l.fn.root next.0 next.1);
+  gap : IsGap l.fn.arena.slots l.fn.root l.marks l.gap;
+  begins : IfSome l.next (λ next. IsBeforeEnd l.fn.arena.slots l.fn.root next.0 next.1);
   order : IfSome l.next (λ next. next.1 ≤ l.gap.from);
 }
 

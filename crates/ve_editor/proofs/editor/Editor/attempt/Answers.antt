@@ -1,9 +1,8 @@
 use Rattle.std.proofs.Common.{◌≤◌, ◌+◌, subst, sym}
 use Rattle.std.specs.Prelude.{IfOk}
-use Rattle.model_items.specs.Tree.{number_of_nodes}
 use Rattle.ve_editor.specs.Page.{LinkedPage, replica_of}
 use Rattle.ve_editor.specs.Trials.{IsMade}
-use Rattle.ve_editor.proofs.TrialLemmas.{within_attempt}
+use Rattle.ve_editor.proofs.TrialLemmas.{within_blank}
 use Rattle.ve_editor.proofs.editor.Editor.attempt.Goals as goal
 
 pub returns-clause-made : goal.returns-clause-made
@@ -15,6 +14,5 @@ returns-clause-made g c =
 
 pub returns-clause-steps : goal.returns-clause-steps
 returns-clause-steps g c = λ h.
-    let p = c.args.self.now in
-    within_attempt p.items c.args.steps.now c.blank.new.steps c.tried-editor.new.steps (g.A.Attempt.cost c.args.attempt.now (replica_of p)) c.blank.ensures.steps
-    (subst (λ (p : LinkedPage). c.tried-editor.new.steps ≤ c.blank.new.steps + number_of_nodes p.items + g.A.Attempt.cost c.args.attempt.now (replica_of p)) c.replace.ensures.value (c.tried-editor.ensures.steps h))
+    within_blank c.args.steps.now c.blank.new.steps c.tried-editor.new.steps (g.A.Attempt.cost c.args.attempt.now (replica_of c.args.self.now)) c.blank.ensures.steps
+    (subst (λ (p : LinkedPage). c.tried-editor.new.steps ≤ c.blank.new.steps + g.A.Attempt.cost c.args.attempt.now (replica_of p)) c.replace.ensures.value (c.tried-editor.ensures.steps h))

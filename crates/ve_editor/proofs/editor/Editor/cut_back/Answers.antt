@@ -13,8 +13,8 @@ invariant_of-self c =
     let n = c.args.entry.now.store_before in
     let kept = subst (λ (r : LinkedPage). (v : Value) → Contains (cited r.items) v → Contains (take n r.store) v) (sym c.self.view_is) (c.requires.uncited c.if-was-entry.true c.if-entry.true) in
     let distinct = subst (λ (r : LinkedPage). AreDistinct r.store) (sym c.self.view_is) c.requires.distinct in
-    let cut = cut_list c.self.inside.store n distinct c.self.inside.list.items c.self.invariant.cites kept in
-    subst (λ s. IsPage s c.self.inside.list.items c.self.inside.tree) (sym c.truncate.ensures) (record { cites = cut.0; tree = c.self.invariant.tree })
+    let cut = cut_list c.self.inside.store n distinct c.self.inside.list.items c.self.invariant.0.cites kept in
+    (subst (λ s. IsPage s c.self.inside.list.items c.self.inside.tree) (sym c.truncate.ensures) (record { cites = cut.0; tree = c.self.invariant.0.tree }), c.self.invariant.1)
 
 pub returns-then-entry : goal.returns-then-entry
 returns-then-entry c =
@@ -22,7 +22,7 @@ returns-then-entry c =
     let L = c.self.inside.list.items in
     let kept = subst (λ (r : LinkedPage). (v : Value) → Contains (cited r.items) v → Contains (take n r.store) v) (sym c.self.view_is) (c.requires.uncited c.if-was-entry.true c.if-entry.true) in
     let distinct = subst (λ (r : LinkedPage). AreDistinct r.store) (sym c.self.view_is) c.requires.distinct in
-    let cut = cut_list c.self.inside.store n distinct L c.self.invariant.cites kept in
+    let cut = cut_list c.self.inside.store n distinct L c.self.invariant.0.cites kept in
     let one : (c.args.was == c.args.entry.now.store_after) ≡ true = eq-eqb c.args.was c.args.entry.now.store_after c.if-was-entry.true in
     let two : nat_lt n c.args.entry.now.store_after ≡ true = lt-ltb n c.args.entry.now.store_after c.if-entry.true in
     let test : ((c.args.was == c.args.entry.now.store_after) && nat_lt n c.args.entry.now.store_after) ≡ true = ap (λ b. b && nat_lt n c.args.entry.now.store_after) one ∙ two in

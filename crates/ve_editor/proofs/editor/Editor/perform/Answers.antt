@@ -43,7 +43,7 @@ returns-in-Err-clause-steps g c =
 pub returns-in-Ok-clause-numbers : goal.returns-in-Ok-clause-numbers
 returns-in-Ok-clause-numbers g c =
     subst (λ (p : LinkedPage). NumbersStay (drafted p.store c.args.draft.now) p.items p.nodes (nodes_of_tree c.ready.new.tree)) c.self.view_is
-    (numbers_drafted c.self.inside.store c.args.draft.now c.self.inside.list.items c.self.invariant.cites c.self.inside.tree c.ready.new.tree c.ready.ensures.root c.in-Ok.ensures.numbers)
+    (numbers_drafted c.self.inside.store c.args.draft.now c.self.inside.list.items c.self.invariant.0.cites c.self.inside.tree c.ready.new.tree c.ready.ensures.root c.in-Ok.ensures.numbers)
 
 pub returns-in-Err-clause-kept : goal.returns-in-Err-clause-kept
 returns-in-Err-clause-kept g c =

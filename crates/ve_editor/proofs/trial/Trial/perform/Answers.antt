@@ -12,7 +12,7 @@ use Rattle.ve_editor.specs.Page.{nodes_of_tree, replica_of}
 use Rattle.ve_editor.specs.Refusal.{IsEditRefusal}
 use Rattle.ve_editor.specs.Stays.{NumbersStay}
 use Rattle.ve_editor.specs.Trials.{Tried}
-use Rattle.ve_editor.proofs.GoBackLemmas.{first_stays, goes_back, notes_cut, page_cut, still_goes_back, values_cut}
+use Rattle.ve_editor.proofs.GoBackLemmas.{first_stays, first_still, goes_back, notes_cut, page_cut, still_goes_back, values_cut}
 use Rattle.ve_editor.proofs.PerformLemmas.{performed_is, allowed_is, entry_is}
 use Rattle.ve_editor.proofs.StayLemmas.{committed_tree, numbers_drafted, unchanged_cut}
 use Rattle.ve_editor.proofs.trial.Trial.perform.Goals as goal
@@ -26,8 +26,8 @@ invariant_of-self g c =
         cites = subst (λ (l : List Item). All (CitesWell new) l) (sym c.commit.ensures.items) will.cites;
         tree = subst (λ (l : List Item). IsTreeOf c.ready_on_trial.new.tree (unvalued l)) (sym c.commit.ensures.items) will.tree;
       },
-      goes_back t.store new t.list c.ready_on_trial.new.list c.commit.new.list c.in-Ok.performing.change.splices.items t.back c.ready_on_trial.new.back t.values t.first_tree c.self.invariant.1
-          c.ready_on_trial.ensures.extends c.ready_on_trial.ensures.items will.fits.within c.commit.ensures.items c.in-Ok.ensures.notes c.in-Ok.ensures.owed c.commit.ensures.spare,
+      goes_back t.store new t.list c.ready_on_trial.new.list c.commit.new.list c.in-Ok.performing.change.splices.items t.back c.ready_on_trial.new.back t.values t.tree c.ready_on_trial.new.tree c.self.invariant.1
+          c.ready_on_trial.ensures.extends c.ready_on_trial.ensures.items will.fits.within c.commit.ensures.items c.in-Ok.ensures.notes c.ready_on_trial.ensures.first c.ready_on_trial.ensures.root c.in-Ok.ensures.owed c.commit.ensures.spare,
     )
 
 pub invariant_of-self-in-Err : goal.invariant_of-self-in-Err
@@ -36,8 +36,8 @@ invariant_of-self-in-Err g c =
     let values = values_cut t.store c.ready_on_trial.new.store c.truncate.new.self c.len-before.result c.ready_on_trial.ensures.extends c.len-before.ensures.count c.truncate.ensures in
     let notes = notes_cut t.back c.ready_on_trial.new.back c.truncate-in-Err.new.self c.len-noted.result c.ready_on_trial.ensures.front c.len-noted.ensures c.truncate-in-Err.ensures in (
       page_cut t.store c.truncate.new.self t.list.items c.ready_on_trial.new.list.items c.ready_on_trial.new.tree c.self.invariant.0.cites values c.ready_on_trial.ensures.items c.in-Err.ensures.kept,
-      still_goes_back t.store c.truncate.new.self t.list c.ready_on_trial.new.list t.back c.truncate-in-Err.new.self t.values t.first_tree c.self.invariant.1
-          values c.ready_on_trial.ensures.items c.ready_on_trial.ensures.spare notes,
+      still_goes_back t.store c.truncate.new.self t.list c.ready_on_trial.new.list t.back c.truncate-in-Err.new.self t.values t.tree c.ready_on_trial.new.tree c.self.invariant.1
+          values c.ready_on_trial.ensures.items c.ready_on_trial.ensures.spare notes c.ready_on_trial.ensures.first c.ready_on_trial.ensures.root,
     )
 
 pub returns-in-Ok-clause-allowed : goal.returns-in-Ok-clause-allowed
@@ -56,8 +56,17 @@ returns-in-Ok-clause-page g c =
 pub returns-in-Ok-clause-first : goal.returns-in-Ok-clause-first
 returns-in-Ok-clause-first g c =
     let t = c.self.inside in
-    first_stays t.store c.ready_on_trial.new.store t.list c.ready_on_trial.new.list c.commit.new.list c.in-Ok.performing.change.splices.items t.back c.ready_on_trial.new.back t.values t.first_tree c.self.invariant.1
-    c.ready_on_trial.ensures.extends c.ready_on_trial.ensures.items c.in-Ok.ensures.ok.change.fits.within c.commit.ensures.items c.in-Ok.ensures.notes t.first_selection
+    first_stays t.store c.ready_on_trial.new.store t.list c.ready_on_trial.new.list c.commit.new.list c.in-Ok.performing.change.splices.items t.back c.ready_on_trial.new.back t.values t.tree c.ready_on_trial.new.tree c.self.invariant.1
+    c.ready_on_trial.ensures.extends c.ready_on_trial.ensures.items c.in-Ok.ensures.ok.change.fits.within c.commit.ensures.items c.in-Ok.ensures.notes c.ready_on_trial.ensures.first c.ready_on_trial.ensures.root t.first_selection
+    ∙ ap (λ (t : Tried). t.first) c.self.view_is
+
+pub returns-in-Err-clause-first : goal.returns-in-Err-clause-first
+returns-in-Err-clause-first g c =
+    let t = c.self.inside in
+    let values = values_cut t.store c.ready_on_trial.new.store c.truncate.new.self c.len-before.result c.ready_on_trial.ensures.extends c.len-before.ensures.count c.truncate.ensures in
+    let notes = notes_cut t.back c.ready_on_trial.new.back c.truncate-in-Err.new.self c.len-noted.result c.ready_on_trial.ensures.front c.len-noted.ensures c.truncate-in-Err.ensures in
+    first_still t.store c.truncate.new.self t.list c.ready_on_trial.new.list t.back c.truncate-in-Err.new.self t.values t.first_selection t.tree c.ready_on_trial.new.tree c.self.invariant.1
+    values c.ready_on_trial.ensures.items notes c.ready_on_trial.ensures.first c.ready_on_trial.ensures.root
     ∙ ap (λ (t : Tried). t.first) c.self.view_is
 
 pub returns-in-Ok-clause-steps : goal.returns-in-Ok-clause-steps

@@ -7,8 +7,8 @@ use Rattle.ve_repair.proofs.read.ChangeReader.make_node.Goals as goal
 pub returns-clause-made : goal.returns-clause-made
 returns-clause-made g c =
     let e : c.push.new.self.items ≡ c.args.self.now.script ++ put_step c.args.what c.in_ok-n.n ∷ [] = search rules in
-    subst (λ (ys : List Step). MakesOn c.args.arena.now c.args.self.now.script c.make.new.self ys) (sym e)
-    (makes_one c.args.arena.now c.make.new.self c.args.self.now.script c.args.what c.in_ok-n.n _ c.in_ok-n.ensures.free c.in_ok-n.ensures.made)
+    subst (λ (ys : List Step). MakesOn c.args.arena.now.slots c.args.self.now.script c.make.new.self.slots ys) (sym e)
+    (makes_one c.args.arena.now.slots c.make.new.self.slots c.args.self.now.script c.args.what c.in_ok-n.n _ c.in_ok-n.ensures.free c.in_ok-n.ensures.made)
 
 pub returns-clause-paid : goal.returns-clause-paid
 returns-clause-paid g c =

@@ -4,7 +4,7 @@ use Rattle.ve_repair.proofs.read.ChangeReader.read.Goals as goal
 
 pub returns-clause-made : goal.returns-clause-made
 returns-clause-made g c =
-    makes_then c.args.arena.now c.pass_ops.new.arena c.rest_of_run.new.arena c.args.self.now.script c.pass_ops.new.self.script c.rest_of_run.new.self.script c.pass_ops.ensures.made c.rest_of_run.ensures.made
+    makes_then c.args.arena.now.slots c.pass_ops.new.arena.slots c.rest_of_run.new.arena.slots c.args.self.now.script c.pass_ops.new.self.script c.rest_of_run.new.self.script c.pass_ops.ensures.made c.rest_of_run.ensures.made
 
 pub returns-in_err-pass_ops-clause-part : goal.returns-in_err-pass_ops-clause-part
 returns-in_err-pass_ops-clause-part g c =
@@ -15,5 +15,5 @@ pub returns-clause-part : goal.returns-clause-part
 returns-clause-part g c =
     err_so c.rest_of_run.result _ _
     (λ part course h enough.
-    ops_part c.args.ops.now course c.pass_ops.new.arena c.pass_ops.new.self c.rest_of_run.new.self.script (c.in_ok-pass_ops.ensures.read course h enough) part)
+    ops_part c.args.ops.now course c.pass_ops.new.arena.slots c.pass_ops.new.self c.rest_of_run.new.self.script (c.in_ok-pass_ops.ensures.read course h enough) part)
     c.rest_of_run.ensures.part

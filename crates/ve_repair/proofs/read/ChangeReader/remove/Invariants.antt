@@ -5,7 +5,7 @@ use Rattle.ve_repair.proofs.read.ChangeReader.remove.Given as goal
 
 abbrev pub invariant-loop-left : goal.invariant-loop-left
 invariant-loop-left l = record {
-  passing : Passing Go l.arena l.arena l.initial.self l.self l.count l.left;
+  passing : Passing Go l.arena.slots l.arena.slots l.initial.self l.self l.count l.left;
   same : MakesSame l.initial.self.script l.self.script;
 }
 

@@ -1,4 +1,4 @@
-use Rattle.std.proofs.Common.{◌≤◌, ◌+◌, ◌*◌, subst}
+use Rattle.std.proofs.Common.{◌≤◌, ◌+◌, ◌*◌, ap, subst}
 use Rattle.ve_tree.specs.IsTree.{unvalued}
 use Rattle.ve_tree.specs.Grown.{ReadChildren, count_from}
 use Rattle.ve_tree.proofs.BuildLemmas.{built_is_tree, steps_built, within_cost}
@@ -17,17 +17,17 @@ returns-in_err-read_children-clause-steps g c = within_cost c.args.steps.now c.r
 pub landmarks_of-landmarks-requires : goal.landmarks_of-landmarks-requires
 landmarks_of-landmarks-requires g c = record {
   items = unvalued c.args.list.now.items;
-  tree = built_is_tree c.new-arena.result c.make.new.self c.set_len.new.self c.read_children.new.arena c.in_ok-root.root c.args.list.now.items c.len.result c.new-rest.result.left
-      c.read_children.new.rest.left c.new-arena.ensures c.len.ensures c.new-rest.ensures.left c.in_ok-root.ensures.made c.set_len.ensures.write
-      (subst (λ items. ReadChildren c.set_len.new.self c.read_children.new.arena c.in_ok-root.root.0 items c.read_children.new.rest.left c.new-rest.result.left) c.new-rest.ensures.items
+  tree = built_is_tree c.new-arena.result.slots c.make.new.self.slots c.set_len.new.self.slots c.read_children.new.arena.slots c.in_ok-root.root c.args.list.now.items c.len.result c.new-rest.result.left
+      c.read_children.new.rest.left (ap (λ arena. arena.slots) c.new-arena.ensures) c.len.ensures c.new-rest.ensures.left c.in_ok-root.ensures.made c.set_len.ensures.write
+      (subst (λ items. ReadChildren c.set_len.new.self.slots c.read_children.new.arena.slots c.in_ok-root.root.0 items c.read_children.new.rest.left c.new-rest.result.left) c.new-rest.ensures.items
       c.in_ok-read_children.ensures.read) c.requires;
 }
 
 pub returns-clause-tree : goal.returns-clause-tree
 returns-clause-tree g c = record {
-  links = built_is_tree c.new-arena.result c.make.new.self c.set_len.new.self c.read_children.new.arena c.in_ok-root.root c.args.list.now.items c.len.result c.new-rest.result.left
-      c.read_children.new.rest.left c.new-arena.ensures c.len.ensures c.new-rest.ensures.left c.in_ok-root.ensures.made c.set_len.ensures.write
-      (subst (λ items. ReadChildren c.set_len.new.self c.read_children.new.arena c.in_ok-root.root.0 items c.read_children.new.rest.left c.new-rest.result.left) c.new-rest.ensures.items
+  links = built_is_tree c.new-arena.result.slots c.make.new.self.slots c.set_len.new.self.slots c.read_children.new.arena.slots c.in_ok-root.root c.args.list.now.items c.len.result c.new-rest.result.left
+      c.read_children.new.rest.left (ap (λ arena. arena.slots) c.new-arena.ensures) c.len.ensures c.new-rest.ensures.left c.in_ok-root.ensures.made c.set_len.ensures.write
+      (subst (λ items. ReadChildren c.set_len.new.self.slots c.read_children.new.arena.slots c.in_ok-root.root.0 items c.read_children.new.rest.left c.new-rest.result.left) c.new-rest.ensures.items
       c.in_ok-read_children.ensures.read) c.requires;
   landmarks = c.landmarks_of-landmarks.ensures;
 }
