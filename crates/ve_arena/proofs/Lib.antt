@@ -1,1 +1,6 @@
 mod ArenaExamples
+mod MakeLemmas
+mod NoteLemmas
+mod SettleLemmas
+mod SlotLemmas
+mod WriteLemmas

@@ -5,6 +5,8 @@ use Rattle.std.specs.Option.{option_map_or}
 use Rattle.ve_arena.specs.declared.node.NodeId.{NodeId}
 use Rattle.ve_arena.specs.declared.node.NodeWhat.{NodeWhat}
 use Rattle.ve_arena.specs.declared.node.ArenaNode.{ArenaNode}
+use Rattle.ve_arena.specs.declared.node.Field.{Field}
+use Rattle.ve_arena.specs.declared.node.Field.TheVariants.{Parent, First, Last, Before, After, Len}
 
 -- The view of an arena: its slots, and during a trial those that were there when it began.
 pub record ArenaView : Type 0 where
@@ -65,3 +67,11 @@ with_after to node = record node { after = to }
 
 abbrev pub with_len : ℕ → ArenaNode → ArenaNode
 with_len len node = record node { len = len }
+
+abbrev pub with_field : Field → ArenaNode → ArenaNode
+with_field (Parent to) = with_parent to
+with_field (First to) = with_first to
+with_field (Last to) = with_last to
+with_field (Before to) = with_before to
+with_field (After to) = with_after to
+with_field (Len len) = with_len len
