@@ -111,7 +111,8 @@ impl Arena {
         steps: &mut Steps<L>,
     ) -> Result<NodeId, Memory>
         ensures free { IfOk result (λ n. node_under self.old.slots n ≡ None) }
-        ensures made { IfOk result (λ n. Puts self.old.slots self.new.slots n (Some (new_node what))) }
+        ensures made { IfOk result (λ n.
+            Puts self.old.slots self.new.slots n (Some (new_node what))) }
         ensures err { OnErr result (self.new ≡ self.old) }
         ensures first { self.new.first ≡ self.old.first }
         ensures step { steps.new ≡ steps.old + 1 }

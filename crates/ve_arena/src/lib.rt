@@ -20,8 +20,8 @@
 //! Definitions, in reading order. `Arena`: what the arena shows (`ArenaView`, `settled`,
 //! `first_slots`), `slot_at` and `node_under` (what stands under a number), `IsLive`, `live_count`
 //! (how many nodes there are), `Puts` and `Changes` (what one call leaves as it was), `new_node`,
-//! and the fields' `with_parent` to `with_len`. `Slots` is how nodes and notes are kept, for private
-//! functions. It has no laws: each clause is the whole of what its call does.
+//! and the fields' `with_parent` to `with_len`. `Slots` serves private functions: it is how nodes
+//! and notes are kept. It has no laws: each clause is the whole of what its call does.
 #![tactic(auto)]
 
 mod arena;
