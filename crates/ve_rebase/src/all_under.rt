@@ -139,11 +139,15 @@ fn moved_over_all(
     let mut count = 1;
     while at < foreign.len() {
         let end = at + within(count, foreign.len() - at);
-        if let Ok(some) = moved_at_once(alloc, &foreign[at..end], mine, &mut buffer) {
-            committed.append(some)?;
-            at = end;
-            count = longer(count);
-            continue;
+        match moved_at_once(alloc, &foreign[at..end], mine, &mut buffer) {
+            Ok(some) => {
+                committed.append(some)?;
+                at = end;
+                count = longer(count);
+                continue;
+            }
+            Err(RebaseFault::Conflict { .. }) => {}
+            Err(RebaseFault::Memory) => return Err(Memory),
         }
         match moved_over(alloc, &foreign[at], mine, &mut buffer) {
             Ok(made) => committed.push(made)?,

@@ -26,7 +26,7 @@ loop-at-preserved-in-Ok c =
       within = omega (arith, c.within.ensures.left, c.loop-at.invariant.within);
       some = c.longer-count.ensures;
       so_far =
-          subst (λ made. MovedSoFar c.args.foreign.now c.args.mine.now.items c.moved_at_once.new.mine.items made (at + c.within.result)) (sym c.in_ok-append.ensures.ok)
+          subst (λ made. MovedSoFar c.args.foreign.now c.args.mine.now.items c.moved_at_once.new.mine.items made (at + c.within.result)) (sym c.in_ok-append-in-Ok.ensures.ok)
           (subst (MovedSoFar c.args.foreign.now c.args.mine.now.items c.moved_at_once.new.mine.items _) end
           (moved_some c.args.foreign.now c.args.mine.now.items now c.loop-at.committed at ((at + c.within.result) - at) c.loop-at.invariant.so_far c.moved_at_once.new.mine.items c.in-Ok.some
           c.in-Ok.ensures.moved));
@@ -35,23 +35,23 @@ loop-at-preserved-in-Ok c =
 pub moved_over-requires-clause-meet : goal.moved_over-requires-clause-meet
 moved_over-requires-clause-meet c =
     let now = c.moved_at_once.new.mine.items in
-    let so_far = subst (λ l. MovedSoFar c.args.foreign.now c.args.mine.now.items l c.loop-at.committed c.loop-at.at) (sym c.in_default.ensures.kept) c.loop-at.invariant.so_far in
+    let so_far = subst (λ l. MovedSoFar c.args.foreign.now c.args.mine.now.items l c.loop-at.committed c.loop-at.at) (sym c.in-Err-Conflict.ensures.kept) c.loop-at.invariant.so_far in
     moved_meets c.args.foreign.now c.args.mine.now.items now c.loop-at.committed c.loop-at.at c.index-foreign-at.result so_far c.loop-at-test.true c.index-foreign-at.is
 
-pub returns-in-Err-Conflict : goal.returns-in-Err-Conflict
-returns-in-Err-Conflict c =
+pub returns-in-Err-Conflict-moved_over : goal.returns-in-Err-Conflict-moved_over
+returns-in-Err-Conflict-moved_over c =
     let one = c.index-foreign-at.result in
     let now = c.moved_at_once.new.mine.items in
-    let so_far = subst (λ l. MovedSoFar c.args.foreign.now c.args.mine.now.items l c.loop-at.committed c.loop-at.at) (sym c.in_default.ensures.kept) c.loop-at.invariant.so_far in
-    let refused = subst (IsMoveRefused one now) c.in-Err-Conflict.field-0-is c.in-Err-Conflict.ensures.refused in
-    subst (λ l. WereMoved c.args.foreign.now c.args.mine.now.items l c.loop-at.committed) (sym c.in-Err-Conflict.ensures.kept)
+    let so_far = subst (λ l. MovedSoFar c.args.foreign.now c.args.mine.now.items l c.loop-at.committed c.loop-at.at) (sym c.in-Err-Conflict.ensures.kept) c.loop-at.invariant.so_far in
+    let refused = subst (IsMoveRefused one now) c.in-Err-Conflict-moved_over.field-0-is c.in-Err-Conflict-moved_over.ensures.refused in
+    subst (λ l. WereMoved c.args.foreign.now c.args.mine.now.items l c.loop-at.committed) (sym c.in-Err-Conflict-moved_over.ensures.kept)
     (moved_clash c.args.foreign.now c.args.mine.now.items now c.loop-at.committed c.loop-at.at one so_far
-    c.loop-at-test.true c.index-foreign-at.is (record { committed = c.in-Err-Conflict.field-0-0; mine = c.in-Err-Conflict.field-0-1 }) refused)
+    c.loop-at-test.true c.index-foreign-at.is (record { committed = c.in-Err-Conflict-moved_over.field-0-0; mine = c.in-Err-Conflict-moved_over.field-0-1 }) refused)
 
 pub loop-at-preserved : goal.loop-at-preserved
 loop-at-preserved c =
     let now = c.moved_at_once.new.mine.items in
-    let so_far = subst (λ l. MovedSoFar c.args.foreign.now c.args.mine.now.items l c.loop-at.committed c.loop-at.at) (sym c.in_default.ensures.kept) c.loop-at.invariant.so_far in
+    let so_far = subst (λ l. MovedSoFar c.args.foreign.now c.args.mine.now.items l c.loop-at.committed c.loop-at.at) (sym c.in-Err-Conflict.ensures.kept) c.loop-at.invariant.so_far in
     record {
       within = omega (arith, c.loop-at-test.true);
       some = omega arith;
