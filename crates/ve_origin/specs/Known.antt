@@ -27,6 +27,12 @@ Match now first from place count = slice_range now from (from + count) ≡ slice
 pub record IsKnown (now : List Item) (refs : List RefRow) (o : FirstRead) (known : Known) : Type 0 where
   pub items : AreKnown now o.items known
 
+-- In each list of which this is known, the items from a position on are those of the node of the
+-- origin k.
+abbrev pub IsKnownNode : FirstRead → ℕ → ℕ → Known → Type 0
+IsKnownNode o k from known =
+    (now : List Item) (row : OriginRow) → AreKnown now o.items known → slice_get o.rows k ≡ Some row → Match now o.items from row.from (row.to - row.from)
+
 -- The run begins at these positions, and goes on up to the first items that differ, or over so many
 -- items where none of them do.
 pub record IsLongest (now first : List Item) (from place most : ℕ) (run : Run) : Type 0 where

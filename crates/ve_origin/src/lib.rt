@@ -16,7 +16,7 @@
 //!   functions.
 //! - `Origins::compared` notes in a `Known` how far a node and its origin's are alike, and
 //!   `kept_after` is `kept` that compares none of that again (specs/Known.antt). Nodes in nodes are
-//!   so compared once.
+//!   so compared once. `is_known` says whether all items of a node are known to be alike.
 //! - `Origins::is_first_after` tells whether a whole list is the one that was first read, and
 //!   compares nothing that is known.
 //!

@@ -1,7 +1,7 @@
 // The page that was first read, and which nodes are still as they were.
 ghost use Rattle.std.specs.Prelude.{◌≡◌, ◌≤◌, ◌<◌, ◌↔◌, IsTrue, length, take, drop, slice_get, Some};
 ghost use Rattle.model_page_write.specs.PageText.{part_at};
-ghost use Rattle.ve_origin.specs.Known.{AreKnown, IsKnown, IsCompared};
+ghost use Rattle.ve_origin.specs.Known.{AreKnown, IsKnown, IsCompared, IsKnownNode};
 ghost use Rattle.ve_origin.specs.Origins.{spans, first_read, items_had, FirstRead, IsCut, IsRow, AreRows, Keeps};
 
 use crate::carried::{Side, all_carry_same};
@@ -181,6 +181,16 @@ impl<'a> Origins<'a> {
             from: row.from,
         };
         all_carry_same(now, first, count)
+    }
+
+    /// Whether the node that begins at a position of a list is known to have all items that were
+    /// first read for the origin. It compares nothing.
+    pub fn is_known(&self, k: u32, from: usize, known: Known) -> bool
+        requires { k < length self.now.rows }
+        ensures { IsTrue result → IsKnownNode self.now k from known }
+    {
+        let row = self.row(k);
+        row.to - row.from <= known.reach(from, row.from)
     }
 
     /// Compares the node that begins at a position of a list with that of the origin, and says what

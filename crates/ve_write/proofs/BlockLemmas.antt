@@ -1,6 +1,6 @@
 -- One step among blocks.
-use Rattle.std.proofs.Common.{◌≡◌, ◌≢◌, ℕ, ◌+◌, Bool, true, false, List, [], ◌∷◌, ◌++◌, drop, refl, sym, ap, ◌∙◌, append_assoc, Option, Some, None}
-use Rattle.std.specs.Prelude.{IfNone, not, ◌&&◌, option_map, unwrap_or, encode_utf8_all, if◌then◌else◌}
+use Rattle.std.proofs.Common.{◌≡◌, ◌≢◌, ℕ, ◌+◌, Bool, true, false, List, [], ◌∷◌, ◌++◌, drop, refl, sym, ap, ◌∙◌, subst, append_assoc, Option, Some, None}
+use Rattle.std.specs.Prelude.{IfNone, IfSome, not, ◌&&◌, option_map, unwrap_or, encode_utf8_all, if◌then◌else◌}
 use Rattle.std.specs.List.{slice_get}
 use Rattle.std.proofs.lemmas.Bool.{and_parts}
 use Rattle.std.proofs.lemmas.List.{append-nil}
@@ -153,6 +153,9 @@ true_false b e f = let g : true ≡ false = sym e ∙ f in absurd cc
 pub none_then : {A P : Type 0} (o : Option A) → ((x : A) → o ≢ Some x) → IfNone o P → P
 none_then None h p = p
 none_then (Some x) h p = absurd (h x refl)
+
+pub some_then : {A : Type 0} (Q : A → Type 0) (o : Option A) (x : A) → o ≡ Some x → IfSome o Q → Q x
+some_then Q o x is h = subst (λ p. IfSome p Q) is h
 
 -- ---- a character, a leaf and the internal list among blocks
 

@@ -1,5 +1,5 @@
 -- Where siblings end: how many more nodes are open at a later position.
-use Rattle.std.proofs.Common.{◌≡◌, ℕ, zero, suc, ◌+◌, ◌-◌, ◌≤◌, Bool, true, List, [], ◌∷◌, length, get_or, take, drop, refl, sym, ap, subst, ◌∙◌, arith, Some, Option, drop-drop}
+use Rattle.std.proofs.Common.{◌≡◌, ℕ, zero, suc, ◌+◌, ◌-◌, ◌≤◌, ◌<◌, Bool, true, List, [], ◌∷◌, length, get_or, take, drop, refl, sym, ap, subst, ◌∙◌, arith, Some, Option, drop-drop}
 use Rattle.std.specs.List.{slice_get, slice_range}
 use Rattle.std.proofs.lemmas.List.{get_or-take, get_or-drop}
 use Rattle.std.proofs.lemmas.Option.{slice_get_within, slice_get-get_or, get_or_from_slice_get}
@@ -44,6 +44,13 @@ piece_stands items piece at is within n item found =
     slice_get-get_or items (at + n) item (omega (arith, less, within))
     ∙ ap Some (sym (get_or-drop at items n item) ∙ sym (get_or-take (length piece) (drop at items) n item less)
     ∙ ap (λ l. get_or l n item) (sym lent) ∙ get_or_from_slice_get piece n item item found)
+
+-- the item of a piece, by its position in the list
+pub piece_item : (items piece : List Item) (from at : ℕ) (x : Item) → piece ≡ slice_range items from (from + length piece) → from + length piece ≤ length items → from ≤ at → at - from < length piece →
+    slice_get items at ≡ Some (get_or piece (at - from) x)
+piece_item items piece from at x is within more less =
+    let here : from + (at - from) ≡ at = omega (arith, more) in
+    ap (slice_get items) (sym here) ∙ piece_stands items piece from is within (at - from) (get_or piece (at - from) x) (slice_get-get_or piece (at - from) x less)
 
 pub at_closing : (items : List Item) (from at d : ℕ) → is_end (drop at items) ≡ true → d ≡ 0 → Inside items from d at → Ends items from at
 at_closing items from at d ends none so = ends_here items from at ends (subst (λ n. Inside items from n at) none so)

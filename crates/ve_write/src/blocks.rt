@@ -13,7 +13,7 @@ ghost use Rattle.ve_write.specs.Told.{blocks_at, known_of, text_of, GoesOn, IsAf
 
 use crate::content::put_content;
 use crate::first_page::{Page, put_cited_leaf, put_white};
-use crate::kept::{compared_at, original_at};
+use crate::kept::{compared_at, is_known_at, original_at};
 use crate::tags::{Element, put_closing, put_opening};
 use crate::{after_siblings, ends_at, is_bare, siblings_end};
 use model_items::Item;
@@ -94,12 +94,13 @@ fn is_bare_at(
 }
 
 /// Appends the block at a position by the bytes that it was, if it is kept, with the whitespace
-/// before it.
+/// before it. `item` is the item at the position.
 fn put_kept(
     alloc: Global,
     out: &mut Bytes,
     page: Page<'_, '_>,
     at: usize,
+    item: Item,
     before: bool,
     known: Known,
 ) -> Result<Option<Step>, Memory>
@@ -107,6 +108,7 @@ fn put_kept(
     requires lent { LendsFirst page }
     requires before { StandsBefore page at }
     requires within { at < length page.list.now.items }
+    requires item { slice_get page.list.now.items at ≡ Some item }
     requires known { IsKnownOf page known }
     ensures more { IfOk result (λ kept. IfSome kept (λ step. at < step.at)) }
     ensures within { IfOk result (λ kept.
@@ -126,7 +128,7 @@ fn put_kept(
         pre,
         origin,
         ..
-    } = page.list.get(at)
+    } = item
     else {
         return Ok(None);
     };
@@ -143,6 +145,48 @@ fn put_kept(
         at: at + original.count,
         bare,
     }))
+}
+
+/// Appends the siblings that stand from a position on and are kept, by the bytes that they were, as
+/// far as a borrowed piece goes and their items are known to be as they were first read. So each
+/// takes one step, and none is looked up.
+fn put_run(
+    alloc: Global,
+    out: &mut Bytes,
+    page: Page<'_, '_>,
+    from: Step,
+    known: Known,
+) -> Result<Step, Memory>
+    requires cites { AllCite page.store.now page.list.now.items }
+    requires lent { LendsFirst page }
+    requires before { is_end (drop from.at page.list.now.items) ≡ false
+        → StandsBefore page from.at }
+    requires within { from.at ≤ length page.list.now.items }
+    requires known { IsKnownOf page known }
+    ensures more { IfOk result (λ step. from.at ≤ step.at) }
+    ensures within { IfOk result (λ step. step.at ≤ length page.entry.list.now.items) }
+    ensures outer { IfOk result (λ step. SameOuter page.entry.list.now.items from.at step.at) }
+    ensures text { IfOk result (λ step. GoesOn (known_of page.entry) out.old out.new
+        (λ w v. blocks_at w v page.entry.list.now.items from.bare from.at) (λ w v. blocks_at w v page.entry.list.now.items step.bare step.at)) }
+    ensures utf8 { OnOk result (IsUtf8 out.old → IsUtf8 out.new) }
+{
+    let len = page.list.len();
+    if from.at == len {
+        return Ok(from);
+    }
+    let piece = page.list.piece(from.at, len);
+    let mut run = from;
+    'sibling: while run.at - from.at < piece.len() {
+        let item = piece[run.at - from.at];
+        if !is_known_at(page, run.at, item, known) {
+            return Ok(run);
+        }
+        match put_kept(alloc, out, page, run.at, item, run.bare, known)? {
+            Some(step) => run = step,
+            None => return Ok(run),
+        }
+    }
+    Ok(run)
 }
 
 /// Appends a block leaf that cites this head, and nothing for the internal list.
@@ -291,10 +335,12 @@ pub fn put_blocks(
     let mut at = from;
     let mut before = false;
     'sibling: while !ends_at(page.list, at) {
-        let found = compared_at(page, at, known);
-        if let Some(step) = put_kept(alloc, out, page, at, before, found)? {
-            at = step.at;
-            before = step.bare;
+        let item = page.list.get(at);
+        let found = compared_at(page, at, item, known);
+        if let Some(step) = put_kept(alloc, out, page, at, item, before, found)? {
+            let next = put_run(alloc, out, page, step, known)?;
+            at = next.at;
+            before = next.bare;
         } else if let Some(element) = nest_at(page.list, at) {
             put_opening(alloc, out, page.store, element, false)?;
             let end = put_blocks(alloc, out, page, at + 1, found)?;

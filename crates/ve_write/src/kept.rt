@@ -1,8 +1,9 @@
 // Nodes that are as they were in the page that was first read.
-ghost use Rattle.std.specs.Prelude.{◌≡◌, ◌≤◌, ◌<◌, ◌+◌, length, drop, option_map, IfSome};
+ghost use Rattle.std.specs.Prelude.{◌≡◌, ◌≤◌, ◌<◌, ◌+◌, ◌∷◌, false, List, length, drop, option_map, IfSome, IsTrue};
+ghost use Rattle.model_items.specs.declared.item.Item.{Item as Cited};
 ghost use Rattle.model_items.specs.Plain.{plain_list};
 ghost use Rattle.ve_write.specs.After.{IsNode};
-ghost use Rattle.ve_write.specs.Siblings.{AllCite};
+ghost use Rattle.ve_write.specs.Siblings.{AllCite, is_end};
 ghost use Rattle.ve_write.specs.Originals.{origin_of, originals_of, read_of};
 ghost use Rattle.ve_write.specs.Told.{IsKnownOf, LendsFirst, StandsBefore};
 
@@ -10,8 +11,9 @@ use crate::first_page::Page;
 use model_items::Item;
 use ve_origin::Known;
 
-/// How far the node at a position is alike with its origin's, once the two were compared.
-pub fn compared_at(page: Page<'_, '_>, at: usize, known: Known) -> Known
+/// How far the node at a position is alike with its origin's, once the two were compared; `item` is
+/// the item there.
+pub fn compared_at(page: Page<'_, '_>, at: usize, item: Item, known: Known) -> Known
     requires within { at < length page.list.now.items }
     requires known { IsKnownOf page known }
     ensures { IsKnownOf page.entry result }
@@ -22,7 +24,7 @@ pub fn compared_at(page: Page<'_, '_>, at: usize, known: Known) -> Known
     let Item::Opening {
         origin: Some(k),
         ..
-    } = page.list.get(at)
+    } = item
     else {
         return known;
     };
@@ -30,6 +32,27 @@ pub fn compared_at(page: Page<'_, '_>, at: usize, known: Known) -> Known
         return known;
     }
     first.origins.compared(k, page.list, at, page.refs, known)
+}
+
+/// Whether the item at a position opens a node whose items are all known to be as they were first
+/// read. It compares nothing.
+pub fn is_known_at(page: Page<'_, '_>, at: usize, item: Item, known: Known) -> bool
+    ensures { IsTrue result → (items : List Cited) → is_end (item ∷ items) ≡ false }
+{
+    let Some(first) = page.first else {
+        return false;
+    };
+    let Item::Opening {
+        origin: Some(k),
+        ..
+    } = item
+    else {
+        return false;
+    };
+    if k as usize >= first.origins.len() {
+        return false;
+    }
+    first.origins.is_known(k, at, known)
 }
 
 /// A node as it was first read: its bytes, and how many items it has.

@@ -10,7 +10,8 @@
 //!   compared again for the nodes in it (`Known` of ve_origin). `write_knowing` does the same for a
 //!   caller that knows of more items that are alike. The list isn't read for its references where
 //!   no value of the store is a head with a key (`Referring`). A kept node ends after as many items
-//!   as it had, which its origin tells.
+//!   as it had, which its origin tells. After a kept node, siblings whose items are all known to be
+//!   alike are taken from a borrowed piece, and none is looked up.
 //! - `write_fresh` appends the nodes of a list without origins: model_page_write's `fresh`.
 //!   `write_fresh_range` does so for a range of whole siblings (`AreSiblings`): its `fresh_range`.
 //!   The range is cut out, and written as a list by itself (`Range`).

@@ -3,7 +3,7 @@ use Rattle.std.proofs.lemmas.Option.{slice_get_within}
 use Rattle.ve_write.proofs.SiblingLemmas.{opening_outer, ends_here, outer_on}
 use Rattle.ve_write.specs.Told.{blocks_at, known_of, GoesOn}
 use Rattle.ve_write.proofs.BeforeLemmas.{before_inside, before_on}
-use Rattle.ve_write.proofs.BlockLemmas.{nests_is, nest_put, none_then, blocks_done}
+use Rattle.ve_write.proofs.BlockLemmas.{nests_is, nest_put, none_then, some_then, blocks_done}
 use Rattle.ve_write.proofs.ContentLemmas.{goes_on}
 use Rattle.ve_write.proofs.blocks.+put_blocks.Goals as goal
 
@@ -16,6 +16,31 @@ pub put_block-requires-clause-before : goal.put_block-requires-clause-before
 put_block-requires-clause-before t c =
     before_on c.args.page.store.now c.args.page.list.now.items c.args.page.refs.now c.args.page.first c.args.from c.sibling.at c.requires.lent c.requires.before c.requires.within c.sibling.invariant.within c.sibling.invariant.outer
     (sym c.ends_at.ensures ∙ c.sibling-test.true)
+
+pub put_run-requires-clause-before : goal.put_run-requires-clause-before
+put_run-requires-clause-before t c = λ goes.
+    let step = c.in-Some.step in
+    before_on c.args.page.store.now c.args.page.list.now.items c.args.page.refs.now c.args.page.first c.args.from step.at c.requires.lent c.requires.before c.requires.within (some_then _ c.in_ok-step.field-0 step c.in-Some.is c.in_ok-step.ensures.within)
+    (outer_on c.args.page.list.now.items c.args.from c.sibling.at step.at c.sibling.invariant.outer (some_then _ c.in_ok-step.field-0 step c.in-Some.is c.in_ok-step.ensures.outer)) goes
+
+pub sibling-preserved-in-Some : goal.sibling-preserved-in-Some
+sibling-preserved-in-Some t c =
+    let items = c.args.page.list.now.items in
+    let k = known_of c.args.page in
+    let i = c.sibling.invariant in
+    let step = c.in-Some.step in
+    let e = c.in_ok-step.ensures in
+    let next = c.in_ok-next.next in
+    let more = some_then _ c.in_ok-step.field-0 step c.in-Some.is e.more in
+    record {
+      more = omega (arith, i.more, more, c.in_ok-next.ensures.more);
+      within = c.in_ok-next.ensures.within;
+      outer = outer_on items c.args.from c.sibling.at next.at i.outer (outer_on items c.sibling.at step.at next.at (some_then _ c.in_ok-step.field-0 step c.in-Some.is e.outer) c.in_ok-next.ensures.outer);
+      text = goes_on k c.args.out.now c.sibling.out c.put_run.new.out (λ w v. blocks_at w v items false c.args.from) (λ w v. blocks_at w v items c.sibling.before c.sibling.at) (λ w v. blocks_at w v items next.bare next.at) i.text
+          (goes_on k c.sibling.out c.put_kept.new.out c.put_run.new.out (λ w v. blocks_at w v items c.sibling.before c.sibling.at) (λ w v. blocks_at w v items step.bare step.at) (λ w v. blocks_at w v items next.bare next.at)
+          (some_then _ c.in_ok-step.field-0 step c.in-Some.is e.text) c.in_ok-next.ensures.text);
+      utf8 = λ u. c.in_ok-next.ensures.utf8 (e.utf8 (i.utf8 u));
+    }
 
 pub put_opening-requires-clause-head : goal.put_opening-requires-clause-head
 put_opening-requires-clause-head t c = let e = c.in-Some-nest_at.ensures.item in (c.requires.cites c.sibling.at _ e.3).0
