@@ -57,5 +57,12 @@ class Gate:
         if host not in self._hosts:
             raise web.HTTPForbidden(text="this service isn't called so: see --host\n")
         origin = request.headers.get("Origin")
-        if origin is not None and origin not in self._origins and urlsplit(origin).netloc.lower() != host:
+        if origin is not None and origin not in self._origins and host_of(origin) != host:
             raise web.HTTPForbidden(text="pages from there may not call this service: see --origin\n")
+
+
+def host_of(origin: str) -> str | None:
+    try:
+        return urlsplit(origin).netloc.lower()
+    except ValueError:
+        return None

@@ -49,6 +49,8 @@ async def _ask(session: ClientSession, url: str) -> None:
         async with session.request(method, url + path, headers=headers, data=b"<p>x</p>" if method == "PUT" else None) as told:
             sure(told.status == wanted, f"{method} {path} by {claims}: {told.status} in place of {wanted}")
     whole = signed(KEY, ADA)
+    async with session.get(url + "/pages", headers={"authorization": f"bearer {whole}"}) as told:
+        sure(told.status == 200, f"a token of a bearer is answered {told.status}")
     body, _, signature = whole.partition(".")
     for forged in (signed(secrets.token_bytes(32), ADA), signed(KEY, OPERATOR).partition(".")[0] + "." + signature, body, ".", "é"):
         async with session.get(url + "/pages", headers=bearer(forged)) as told:
@@ -97,7 +99,8 @@ def check_strangers(program: Path) -> None:
         key = Path(folder) / "key"
         key.write_bytes(KEY)
         server = cluster.Server(Path(folder), ["--program", str(program), "--log", str(Path(folder) / "pages.sqlite"),
-                                               "--access", "tokens:visitor"], {**os.environ, "VEMODEL_KEY": str(key)})
+                                               "--access", "tokens:visitor"], {**os.environ, "VEMODEL_KEY": str(key)},
+                                "::1" if cluster.has_ipv6() else "127.0.0.1")
         server.start()
         try:
             server.ready()

@@ -53,8 +53,9 @@ def matches(patterns: list[str], page: str) -> bool:
 
 
 def visitor(request: web.Request) -> Visitor | None:
-    given = request.headers.get("Authorization", "")
-    token = given.removeprefix("Bearer ") if given else request.cookies.get("vemodel", "")
+    kind, _, token = request.headers.get("Authorization", "").partition(" ")
+    if kind.lower() != "bearer":
+        token = "" if kind else request.cookies.get("vemodel", "")
     claims = opened(the_key(), token, time.time())
     if claims is None:
         return None
