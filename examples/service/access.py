@@ -34,9 +34,13 @@ def anyone(request: web.Request) -> Visitor:
 
 
 def access(named: str) -> Access:
-    """The function that is named so, as `tokens:visitor`; its module may stand beside this one, or where Python looks."""
-    module, _, function = named.partition(":")
-    found: Access = getattr(import_module(module), function)
+    """The function that is named so, as `tokens:visitor`; its module may stand beside this one, or where Python looks. Where it has a
+    function `ready`, that is called before anybody is let in."""
+    name, _, function = named.partition(":")
+    module = import_module(name)
+    found: Access = getattr(module, function)
+    if hasattr(module, "ready"):
+        module.ready()
     return found
 
 

@@ -102,6 +102,10 @@ class Server:
     def finish(self) -> int:
         """Tells it to end; its status."""
         self.send(signal.SIGTERM)
+        return self.status()
+
+    def status(self) -> int:
+        """Waits until it has ended."""
         assert self._process is not None
         status = self._process.wait(20)
         self._process = None

@@ -87,6 +87,21 @@ async def _list(session: ClientSession, url: str) -> None:
         sure(listed == wanted, f"the pages{query} are {listed}")
 
 
+def _without_a_key(program: Path, folder: Path) -> None:
+    """A server that can't know anybody's token doesn't begin."""
+    (folder / "short").write_bytes(b"abc")
+    keys: list[dict[str, str]] = [{}, {"VEMODEL_KEY": str(folder / "none")}, {"VEMODEL_KEY": str(folder / "short")}]
+    for key in keys:
+        around = {name: value for name, value in os.environ.items() if name != "VEMODEL_KEY"}
+        server = cluster.Server(folder, ["--program", str(program), "--log", str(folder / "keyless.sqlite"), "--access", "tokens:visitor"],
+                                {**around, **key})
+        server.start()
+        try:
+            sure(server.status() == 1 and "Traceback" not in server.complaints, f"a server with the key {key} begins")
+        finally:
+            server.end()
+
+
 async def _all(url: str) -> None:
     async with ClientSession() as session:
         await _ask(session, url)
@@ -96,6 +111,7 @@ async def _all(url: str) -> None:
 
 def check_strangers(program: Path) -> None:
     with tempfile.TemporaryDirectory(prefix="vemodel-") as folder:
+        _without_a_key(program, Path(folder))
         key = Path(folder) / "key"
         key.write_bytes(KEY)
         server = cluster.Server(Path(folder), ["--program", str(program), "--log", str(Path(folder) / "pages.sqlite"),
