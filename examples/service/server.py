@@ -8,7 +8,7 @@ import contextlib
 import logging
 import signal
 import sys
-from collections.abc import Awaitable, Callable
+from collections.abc import Awaitable, Callable, Coroutine
 from pathlib import Path
 from typing import Any
 
@@ -119,6 +119,18 @@ def told_to_end() -> asyncio.Event:
     return stop
 
 
+async def done_before(stop: asyncio.Event, step: Coroutine[Any, Any, None]) -> bool:
+    """Whether a step, which may wait for ever, is done before the server is told to end. Raises what it raises."""
+    doing, told = asyncio.create_task(step), asyncio.create_task(stop.wait())
+    await asyncio.wait((doing, told), return_when=asyncio.FIRST_COMPLETED)
+    told.cancel()
+    if doing.done():
+        await doing
+        return True
+    doing.cancel()
+    return False
+
+
 def application(given: argparse.Namespace, service: Service, watch: Watch) -> web.Application:
     requests = Requests(Gate(given.listen, given.host, given.origin), access(given.access), watch)
     app = web.Application(client_max_size=given.page, middlewares=[requests.answer])
@@ -143,7 +155,8 @@ async def serve(given: argparse.Namespace) -> None:
     shared = Shared(log, programs, limits, Costs(given.share))
     async with contextlib.AsyncExitStack() as stack:
         homes.begin(shared)
-        await log.open()
+        if not await done_before(stop, log.open()):
+            return
         stack.push_async_callback(log.close)
         service = Service(given.listen, shared, homes, wires, watch, await stack.enter_async_context(ClientSession()))
         # What is packed would become a thousand times as long before anybody looks at it.

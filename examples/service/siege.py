@@ -9,6 +9,7 @@ import secrets
 import signal
 import socket
 import tempfile
+import time
 from collections.abc import Awaitable, Iterator
 from contextlib import contextmanager
 from pathlib import Path
@@ -379,11 +380,23 @@ def attack(program: Path) -> None:
     print(f"service: adversary: ok: {sent} messages and 18 sieges, each answered, refused or ended")
 
 
+def without_a_database(program: Path, folder: Path) -> None:
+    """A server that waits for its database ends when it is told to."""
+    server = cluster.Server(folder, ["--program", str(program), "--log", "postgresql://nobody@127.0.0.1:1/none"])
+    server.start()
+    try:
+        time.sleep(2)
+        sure(server.finish() in (0, -signal.SIGTERM), "a server without its database doesn't end well")
+    finally:
+        server.end()
+
+
 def attack_postgres(program: Path) -> None:
     from database import Postgres, programs
     at = programs()
     assert at is not None
     with tempfile.TemporaryDirectory(prefix="vemodel-") as folder:
+        without_a_database(program, Path(folder))
         base = Postgres(at, Path(folder))
         try:
             with besieged(program, Path(folder), base.log) as server:
