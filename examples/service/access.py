@@ -34,9 +34,13 @@ def anyone(request: web.Request) -> Visitor:
 
 
 def access(named: str) -> Access:
-    """The function that is named so, as `tokens:visitor`; its module may stand beside this one, or where Python looks."""
-    module, _, function = named.partition(":")
-    found: Access = getattr(import_module(module), function)
+    """The function that is named so, as `tokens:visitor`; its module may stand beside this one, or where Python looks. Where it has a
+    function `ready`, that is called before anybody is let in."""
+    name, _, function = named.partition(":")
+    module = import_module(name)
+    found: Access = getattr(module, function)
+    if hasattr(module, "ready"):
+        module.ready()
     return found
 
 
@@ -57,5 +61,12 @@ class Gate:
         if host not in self._hosts:
             raise web.HTTPForbidden(text="this service isn't called so: see --host\n")
         origin = request.headers.get("Origin")
-        if origin is not None and origin not in self._origins and urlsplit(origin).netloc.lower() != host:
+        if origin is not None and origin not in self._origins and host_of(origin) != host:
             raise web.HTTPForbidden(text="pages from there may not call this service: see --origin\n")
+
+
+def host_of(origin: str) -> str | None:
+    try:
+        return urlsplit(origin).netloc.lower()
+    except ValueError:
+        return None

@@ -3,6 +3,7 @@ same page goes on as before."""
 from __future__ import annotations
 
 import asyncio
+import gzip
 import json
 import secrets
 from typing import Any
@@ -57,6 +58,7 @@ REQUESTS: list[tuple[str, str, str, dict[str, str], bytes, int]] = [
     ("a page of another site that writes", "PUT", "/pages/stolen", OTHERS, b"<p>x</p>", 403),
     ("a page of another site that reads", "GET", "/pages/calm", OTHERS, b"", 403),
     ("a page of no site", "GET", "/pages/calm", {"Origin": "null"}, b"", 403),
+    ("an origin that is none", "GET", "/pages/calm", {"Origin": "http://["}, b"", 403),
     ("another name for this machine", "GET", "/pages/calm", {"Host": "elsewhere.example"}, b"", 403),
     ("a server's word, from outside", "GET", "/pages/calm", {"X-Vemodel-Hop": "1", **OTHERS}, b"", 403),
     ("a name with U+0000", "GET", "/pages/%00", {}, b"", 400),
@@ -66,6 +68,7 @@ REQUESTS: list[tuple[str, str, str, dict[str, str], bytes, int]] = [
     ("a page that is no UTF-8", "PUT", "/pages/bytes", {}, b"\xff\xfe", 400),
     ("a page that is no HTML of the program's", "PUT", "/pages/wrong", {}, b"<p", 422),
     ("a page that is too long", "PUT", "/pages/long", {}, b"x" * (3 << 20), 413),
+    ("a page that is packed", "PUT", "/pages/packed", {"Content-Encoding": "gzip"}, gzip.compress(b"<p>x</p>"), 415),
     ("a number that is none", "GET", "/pages/calm/lines?from=-1", {}, b"", 400),
     ("a way out of the folder", "GET", "/pages/..%2f..%2fetc%2fpasswd", {}, b"", 404),
 ]

@@ -37,10 +37,11 @@ class Sqlite:
 class Server:
     """One server, which is killed and started again at the same address."""
 
-    def __init__(self, folder: Path, words: list[str], environment: Mapping[str, str] = os.environ) -> None:
-        with socket.socket() as free:
-            free.bind(("127.0.0.1", 0))
-            self.address = f"127.0.0.1:{free.getsockname()[1]}"
+    def __init__(self, folder: Path, words: list[str], environment: Mapping[str, str] = os.environ, host: str = "127.0.0.1") -> None:
+        is_6 = ":" in host
+        with socket.create_server((host, 0), family=socket.AF_INET6 if is_6 else socket.AF_INET) as free:
+            self._at = host, int(free.getsockname()[1])
+        self.address = f"[{host}]:{self._at[1]}" if is_6 else f"{host}:{self._at[1]}"
         self._words = [sys.executable, str(SERVER), "--listen", self.address, *words]
         self._environment = environment
         self._log = open(folder / "servers.log", "a")
@@ -53,7 +54,7 @@ class Server:
         until = time.monotonic() + 30
         while True:
             try:
-                with socket.create_connection(("127.0.0.1", int(self.address.split(":")[1]))):
+                with socket.create_connection(self._at):
                     return
             except OSError:
                 if time.monotonic() > until:
@@ -101,6 +102,10 @@ class Server:
     def finish(self) -> int:
         """Tells it to end; its status."""
         self.send(signal.SIGTERM)
+        return self.status()
+
+    def status(self) -> int:
+        """Waits until it has ended."""
         assert self._process is not None
         status = self._process.wait(20)
         self._process = None
@@ -109,6 +114,12 @@ class Server:
     def end(self) -> None:
         if self._process is not None:
             self.kill()
+
+
+def has_ipv6() -> bool:
+    with contextlib.suppress(OSError), socket.create_server(("::1", 0), family=socket.AF_INET6):
+        return True
+    return False
 
 
 def resident(process: int) -> int:

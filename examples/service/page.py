@@ -3,6 +3,7 @@ from __future__ import annotations
 
 import asyncio
 import contextlib
+import json
 import sys
 from collections import deque
 from collections.abc import Awaitable, Callable, Iterable
@@ -43,6 +44,7 @@ class Page:
         self._tidied = 0.0
         self.over = asyncio.Event()  # nothing is answered any more, so who is here is to connect anew
         self._requests: deque[Queued] = deque()
+        self._shown: asyncio.Future[Line] | None = None  # the answer to all who wait for the page, until it is read
         self._owing: list[Queued] = []  # of who takes more than a part of the program's time, until it may go on
         self._most = MOST_LINES  # of the next turn
         self._standing: deque[tuple[Queued, float]] = deque()  # who waits for a seat, and since when
@@ -61,7 +63,10 @@ class Page:
         answer: asyncio.Future[Line] = asyncio.get_running_loop().create_future()
         if self.over.is_set():
             fail(answer, self.name)
+        elif isinstance(request, Show) and self._shown is not None:
+            return self._shown
         else:
+            self._shown = answer if isinstance(request, Show) else self._shown
             self._requests.append((request, answer))
             self._wake.set()
         return answer
@@ -170,10 +175,13 @@ class Page:
                 if queued[0].holder == fault.request.holder:
                     self._ended(queued, str(fault))
             self._again(queued for queued in taken if not queued[1].done())
-        except Late:
+        except Late as fault:
             await self._world.renew()
-            self._most = max(1, len(taken) // 4)
-            self._again(taken)
+            if isinstance(taken[0][0], (Ask, Change)):
+                self._most = max(1, len(taken) // 4)
+                self._again(taken)
+            else:
+                self._ended(taken[0], str(fault))
         except Ended as fault:
             await self._world.renew()
             await self._one_by_one(taken, str(fault))
@@ -211,8 +219,9 @@ class Page:
         elif isinstance(request, Enter):
             self._answer(answer, self._entered(request.holder))
         elif isinstance(request, Show):
+            self._shown = None  # who comes from here on may have been answered what isn't read here
             [reply] = await self._world.read({"do": "html", "site": VIEW})
-            self._answer(answer, {"reply": reply, "next": self._world.next})
+            self._answer(answer, {"page": json.loads(reply[3:]).encode(), "next": self._world.next})
 
     async def _lines(self, taken: list[Queued]) -> None:
         turn = Turn(self._world, self.seating, self._cutting, self._costs)

@@ -5,13 +5,15 @@ from __future__ import annotations
 import argparse
 import asyncio
 import contextlib
+import logging
 import signal
 import sys
-from collections.abc import Awaitable, Callable
+from collections.abc import Awaitable, Callable, Coroutine
 from pathlib import Path
 from typing import Any
 
 from aiohttp import ClientSession, web
+from aiohttp.http_exceptions import HttpProcessingError
 
 from access import Access, Gate, access
 from asks import Limits
@@ -21,7 +23,7 @@ from log import Log, Lost
 from log_sqlite import SqliteLog
 from programs import PROGRAM, Bounds, Crowded, Programs
 from service import Service
-from watch import Watch
+from watch import Watch, fitting
 from window import Window
 from wire import Bad, Wires
 from world import Shared, Strange
@@ -92,8 +94,18 @@ def unless_broken(loop: asyncio.AbstractEventLoop, told: dict[str, Any]) -> None
         loop.default_exception_handler(told)
 
 
+def is_ours(told: logging.LogRecord) -> bool:
+    """aiohttp shows where it was when it met what is no request, or a connection that ended: strangers could fill a disk by it."""
+    fault = told.exc_info[1] if told.exc_info else None
+    return not isinstance(fault, (HttpProcessingError, web.RequestPayloadError, ConnectionError))
+
+
+def on_postgres(given: argparse.Namespace) -> bool:
+    return bool(given.log.startswith(("postgresql:", "postgres:")))
+
+
 def engine(given: argparse.Namespace, homes: Homes) -> Log:
-    if not given.log.startswith(("postgresql:", "postgres:")):
+    if not on_postgres(given):
         return SqliteLog(Path(given.log), given.history)
     from log_postgres import PostgresLog  # which needs a package that SQLite doesn't
     return PostgresLog(given.log, given.listen, given.history, homes.heard, homes.ended, homes.lost)
@@ -105,6 +117,18 @@ def told_to_end() -> asyncio.Event:
     for number in signal.SIGTERM, signal.SIGINT:
         asyncio.get_running_loop().add_signal_handler(number, stop.set)
     return stop
+
+
+async def done_before(stop: asyncio.Event, step: Coroutine[Any, Any, None]) -> bool:
+    """Whether a step, which may wait for ever, is done before the server is told to end. Raises what it raises."""
+    doing, told = asyncio.create_task(step), asyncio.create_task(stop.wait())
+    await asyncio.wait((doing, told), return_when=asyncio.FIRST_COMPLETED)
+    told.cancel()
+    if doing.done():
+        await doing
+        return True
+    doing.cancel()
+    return False
 
 
 def application(given: argparse.Namespace, service: Service, watch: Watch) -> web.Application:
@@ -119,6 +143,10 @@ async def serve(given: argparse.Namespace) -> None:
     """Until it is told to end; then what has come is answered."""
     stop = told_to_end()
     asyncio.get_running_loop().set_exception_handler(unless_broken)
+    logging.getLogger("aiohttp.server").addFilter(is_ours)
+    connections = fitting(given.connections, given.programs, 2 if on_postgres(given) else 1)
+    if connections < given.connections:
+        print(f"the system allows files for {connections} connections: see ulimit -n", file=sys.stderr, flush=True)
     homes, wires = Homes(), Wires()
     watch = Watch(wires, given.waiting)
     log = engine(given, homes)
@@ -127,20 +155,23 @@ async def serve(given: argparse.Namespace) -> None:
     shared = Shared(log, programs, limits, Costs(given.share))
     async with contextlib.AsyncExitStack() as stack:
         homes.begin(shared)
-        await log.open()
+        if not await done_before(stop, log.open()):
+            return
         stack.push_async_callback(log.close)
         service = Service(given.listen, shared, homes, wires, watch, await stack.enter_async_context(ClientSession()))
-        runner = web.AppRunner(application(given, service, watch), access_log=None)
+        # What is packed would become a thousand times as long before anybody looks at it.
+        runner = web.AppRunner(application(given, service, watch), access_log=None, auto_decompress=False)
         await runner.setup()
         stack.push_async_callback(runner.cleanup)
+        server = runner.server
+        assert server is not None
+        watch.bound(server, connections)
         host, _, port = given.listen.rpartition(":")
-        site = web.TCPSite(runner, host, int(port), backlog=4096, shutdown_timeout=1)
+        site = web.TCPSite(runner, host.strip("[]"), int(port), backlog=4096, shutdown_timeout=1)
         await site.start()
         print(f"http://{given.listen}", flush=True)
         if given.access == ANYONE and host not in LOOPBACK:
             print("whoever reaches this address may read, write and delete every page: see --access", file=sys.stderr, flush=True)
-        server = runner.server
-        assert server is not None
         tasks = [asyncio.create_task(part) for part in (homes.sweep(), watch.run(server))]
         await stop.wait()
         await site.stop()
@@ -164,6 +195,7 @@ def words() -> argparse.ArgumentParser:
     known.add_argument("--line", type=float, default=2, metavar="SECONDS", help="of a processor, that a line may take")
     known.add_argument("--share", type=float, default=0.125, help="of a processor, that the lines of one person may take in the long run")
     known.add_argument("--waiting", type=int, default=256 << 20, metavar="BYTES", help="that all connections together may let wait")
+    known.add_argument("--connections", type=int, default=15_000, help="that there are at once")
     known.add_argument("--page", type=int, default=1 << 20, metavar="BYTES", help="of a new page")
     known.add_argument("--cut", type=int, default=1 << 20, metavar="BYTES", help="cut a longer log at a quiet moment")
     known.add_argument("--most", type=int, default=16 << 20, metavar="BYTES", help="cut a longer log at once")

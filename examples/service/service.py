@@ -3,7 +3,6 @@ from __future__ import annotations
 
 import asyncio
 import contextlib
-import json
 from collections.abc import AsyncIterator, Awaitable, Callable
 from urllib.parse import unquote
 
@@ -27,6 +26,7 @@ HELLO = 10.0  # seconds in which who writes has to say who it is
 SOME = 100  # names that one reading gives, unless it asks for another number
 MOST_SOME = 1000
 HOP = "X-Vemodel-Hop"  # a request that another server handed on: it isn't handed on again
+PIECE = 1 << 18  # bytes of a page that are sent at once
 AGAIN = 1012  # the code by which a connection ends where its client is to connect anew
 
 
@@ -63,6 +63,8 @@ class Service:
 
     async def create(self, request: web.Request) -> web.Response:
         name = named(request, write=True)
+        if "Content-Encoding" in request.headers:
+            raise web.HTTPUnsupportedMediaType(text="a page is sent as it is\n")
         async with asyncio.timeout(BODY):
             text = (await request.read()).decode()
         request.protocol.close()  # what is sent behind it isn't read
@@ -80,23 +82,24 @@ class Service:
             raise web.HTTPConflict(text="there is such a page\n")
         return web.Response(status=201, text=reply + "\n")
 
-    async def show(self, request: web.Request) -> web.Response:
+    async def show(self, request: web.Request) -> web.StreamResponse:
         """The committed page."""
         name = named(request)
 
-        async def here(taken: bool) -> web.Response:
-            told = await (await self._homes.page(name, taken)).put(Show())
+        async def here(taken: bool) -> web.StreamResponse:
+            told = await asyncio.shield((await self._homes.page(name, taken)).put(Show()))  # others may wait for it, too
             if "error" in told:
                 raise web.HTTPInsufficientStorage(text=f"{told['why']}\n")
-            return web.Response(text=json.loads(told["reply"][3:]), content_type="text/plain", charset="utf-8",
-                                headers={"X-Vemodel-Next": str(told["next"])})
+            answer = web.StreamResponse(headers={"Content-Type": "text/plain; charset=utf-8", "X-Vemodel-Next": str(told["next"])})
+            answer.content_length = len(told["page"])
+            return await in_pieces(request, answer, told["page"])
 
         return await self._at_home(request, name, here)
 
-    async def delete(self, request: web.Request) -> web.Response:
+    async def delete(self, request: web.Request) -> web.StreamResponse:
         name = named(request, write=True)
 
-        async def here(taken: bool) -> web.Response:
+        async def here(taken: bool) -> web.StreamResponse:
             await self._homes.delete(name, taken)
             return web.Response(status=204)
 
@@ -134,8 +137,9 @@ class Service:
         number = number_of(request.query.get("from"), span.first)
         return name, span, number if number <= span.next else span.first
 
-    async def _at_home(self, request: web.Request, name: str, here: Callable[[bool], Awaitable[web.Response]]) -> web.Response:
-        async def there(address: str) -> web.Response:
+    async def _at_home(self, request: web.Request, name: str,
+                       here: Callable[[bool], Awaitable[web.StreamResponse]]) -> web.StreamResponse:
+        async def there(address: str) -> web.StreamResponse:
             async with self._peers.request(request.method, f"http://{address}{request.path_qs}", headers=handed_on(request),
                                            timeout=ClientTimeout(ANSWER)) as answer:
                 if answer.status == 503:
@@ -248,6 +252,15 @@ def introduced(hello: Line) -> tuple[str, int | None]:
 def handed_on(request: web.Request) -> dict[str, str]:
     """What another server needs to see for itself who asks."""
     return {HOP: "1", **{name: request.headers[name] for name in ("Authorization", "Cookie") if name in request.headers}}
+
+
+async def in_pieces(request: web.Request, answer: web.StreamResponse, body: bytes) -> web.StreamResponse:
+    """Sends what others are sent, too, as fast as it is taken: so it isn't copied for each."""
+    answer.force_close()
+    await answer.prepare(request)
+    for begin in range(0, len(body) if request.method == "GET" else 0, PIECE):
+        await answer.write(body[begin:begin + PIECE])
+    return answer
 
 
 async def listen(wire: Wire) -> None:

@@ -9,6 +9,7 @@ import secrets
 import signal
 import socket
 import tempfile
+import time
 from collections.abc import Awaitable, Iterator
 from contextlib import contextmanager
 from pathlib import Path
@@ -24,6 +25,7 @@ MEMORY = 160 * MEGABYTE  # that the server may grow by
 LATE = 40.0  # seconds after which who sends or reads nothing has surely been ended
 UNASKED = 28.0  # and before which nobody is ended who doesn't answer pings
 PROGRAMS = 6
+CONNECTIONS = 200
 MOST = 100_000  # bytes of a log
 
 
@@ -47,8 +49,9 @@ class Siege:
     async def all(self) -> None:
         before = self._server.memory
         slow = [asyncio.create_task(part) for part in (
-            self.half_a_request(), self.half_a_page(), self.half_a_message(), self.reads_nothing())]
-        for part in (self.hurries, self.wanders, self.asks_ahead, self.wants_memory, self.wants_time, self.programs_end, self.visits, self.crowd, self.long_log, self.many_pages):
+            self.half_a_request(), self.half_a_page(), self.half_a_message(), self.reads_nothing(), self.reads_slowly())]
+        for part in (self.hurries, self.wanders, self.asks_ahead, self.wants_memory, self.wants_time, self.programs_end, self.visits,
+                     self.crowd, self.talks_nonsense, self.many_look, self.long_log, self.many_pages, self.many_connections):
             await part()
             await self._bystander.unharmed(part.__name__)
         for task in slow:
@@ -85,6 +88,14 @@ class Siege:
         sure(b" 408 " in answer, f"half a page is answered {answer!r}")
         writer.close()
 
+    async def talks_nonsense(self) -> None:
+        """What is no request; and a page whose sender goes in the middle of it."""
+        half = f"PUT /pages/half HTTP/1.1\r\nHost: {self._server.address}\r\nContent-Length: 100\r\n\r\n<p>"
+        for said in b"\x16\x03\x01\r\n\r\n", half.encode():
+            _, writer = await self._connected(said)
+            await asyncio.sleep(0.2)
+            writer.close()
+
     async def half_a_message(self) -> None:
         """Forty begin messages of a megabyte, and don't end them: some by a frame that isn't the last, some within a frame."""
         frames = [head + b"\xff" + size.to_bytes(8, "big") + bytes(4) + b"x" * 1_000_000
@@ -106,6 +117,27 @@ class Siege:
             sure(await ended(reader), "who reads nothing is waited for")
         finally:
             writer.close()
+
+    async def reads_slowly(self) -> None:
+        """Takes a long page as a slow line brings it, for longer than is waited for who takes nothing; and then the rest. All comes."""
+        await self._long_page("slowly")
+        reader, writer = await self._connected(f"GET /pages/slowly HTTP/1.1\r\nHost: {self._server.address}\r\n\r\n".encode())
+        size = int((await reader.readuntil(b"\r\n\r\n")).partition(b"Content-Length: ")[2].split(b"\r\n")[0])
+        for _ in range(180):
+            size -= len(await reader.read(6400))
+            await asyncio.sleep(0.1)
+        while some := await reader.read(65536):
+            size -= len(some)
+        sure(size == 0, f"who reads slowly misses {size} bytes")
+        writer.close()
+
+    async def _long_page(self, name: str) -> None:
+        """A page that a short line made 20 megabytes."""
+        cluster.put(self._server.address, name, "<p>x</p>" * 1000)
+        evil = await Connection.seated(self._session, self._server.address, name)
+        await evil.do(**{"do": "wrap", "from": 0, "to": 3000, "wrap_each": [{"kind": "div", "attrs": [["class", "x" * 20_000]]}]})
+        await evil.do(do="send")
+        await evil.socket.close()
 
     async def hurries(self) -> None:
         """Sends 40 megabytes, and doesn't wait for an answer."""
@@ -250,6 +282,32 @@ class Siege:
             await connection.socket.close()
 
 
+    async def many_look(self) -> None:
+        """Thirty look at once at a page that takes long to write. It is written for all together."""
+        await self._long_page("looked-at")
+        alone = await self._looked(1)
+        together = await self._looked(30)
+        sure(together < 10 * alone, f"one who looks waits {alone:.1f} s, and thirty {together:.1f} s")
+
+    async def _looked(self, count: int) -> float:
+        """The seconds in which so many are told how long that page is."""
+        async def look() -> None:
+            async with self._session.head(f"{self._url}/pages/looked-at") as told:
+                sure(told.status == 200 and int(told.headers["Content-Length"]) > 20_000_000, f"who looks is answered {told.status}")
+        began = asyncio.get_running_loop().time()
+        await asyncio.gather(*(look() for _ in range(count)))
+        return asyncio.get_running_loop().time() - began
+
+    async def many_connections(self) -> None:
+        """Twenty more than there may be."""
+        connections = [await self._connected(b"") for _ in range(CONNECTIONS + 20)]
+        await self._bystander.unharmed("more connections than there may be")
+        late = await asyncio.gather(*(ended(reader, 2) for reader, _ in connections))
+        sure(20 <= sum(late) < CONNECTIONS, f"of {len(late)} connections {sum(late)} are ended")
+        for _, writer in connections:
+            writer.close()
+
+
 def marks(do: str, length: int, count: int) -> list[dict[str, object]]:
     """Marks set over all of a page's letters, or taken off them."""
     return [{"do": do, "from": 1, "to": length, "tag": "b", "attrs": [["id", str(n)]]} for n in range(count)]
@@ -287,14 +345,16 @@ async def ended(reader: asyncio.StreamReader, late: float = LATE) -> bool:
 @contextmanager
 def besieged(program: Path, folder: Path, log: str) -> Iterator[cluster.Server]:
     server = cluster.Server(folder, [
-        "--program", str(program), "--log", log, "--programs", str(PROGRAMS), "--memory", str(512 * MEGABYTE), "--waiting",
-        str(32 * MEGABYTE), "--page", str(2 * MEGABYTE), "--most", str(MOST), "--share", "0.0001"])
+        "--program", str(program), "--log", log, "--programs", str(PROGRAMS), "--connections", str(CONNECTIONS),
+        "--memory", str(512 * MEGABYTE), "--waiting", str(32 * MEGABYTE), "--page", str(2 * MEGABYTE), "--most", str(MOST),
+        "--share", "0.0001"])
     server.start()
     try:
         server.ready()
         cluster.put(server.address, "calm", "<p>ab</p>")
         yield server
         sure(server.finish() == 0, "the server doesn't end when it is told to")
+        sure("Traceback" not in server.complaints, "the server shows where it was when somebody sent what it shouldn't")
     except BaseException:
         print(server.complaints)
         raise
@@ -317,7 +377,18 @@ def attack(program: Path) -> None:
     with tempfile.TemporaryDirectory(prefix="vemodel-") as folder:
         with besieged(program, Path(folder), str(Path(folder) / "pages.sqlite")) as server:
             sent = asyncio.run(_attack(server, with_sieges=True))
-    print(f"service: adversary: ok: {sent} messages and 14 sieges, each answered, refused or ended")
+    print(f"service: adversary: ok: {sent} messages and 18 sieges, each answered, refused or ended")
+
+
+def without_a_database(program: Path, folder: Path) -> None:
+    """A server that waits for its database ends when it is told to."""
+    server = cluster.Server(folder, ["--program", str(program), "--log", "postgresql://nobody@127.0.0.1:1/none"])
+    server.start()
+    try:
+        time.sleep(2)
+        sure(server.finish() in (0, -signal.SIGTERM), "a server without its database doesn't end well")
+    finally:
+        server.end()
 
 
 def attack_postgres(program: Path) -> None:
@@ -325,6 +396,7 @@ def attack_postgres(program: Path) -> None:
     at = programs()
     assert at is not None
     with tempfile.TemporaryDirectory(prefix="vemodel-") as folder:
+        without_a_database(program, Path(folder))
         base = Postgres(at, Path(folder))
         try:
             with besieged(program, Path(folder), base.log) as server:

@@ -49,6 +49,8 @@ async def _ask(session: ClientSession, url: str) -> None:
         async with session.request(method, url + path, headers=headers, data=b"<p>x</p>" if method == "PUT" else None) as told:
             sure(told.status == wanted, f"{method} {path} by {claims}: {told.status} in place of {wanted}")
     whole = signed(KEY, ADA)
+    async with session.get(url + "/pages", headers={"authorization": f"bearer {whole}"}) as told:
+        sure(told.status == 200, f"a token of a bearer is answered {told.status}")
     body, _, signature = whole.partition(".")
     for forged in (signed(secrets.token_bytes(32), ADA), signed(KEY, OPERATOR).partition(".")[0] + "." + signature, body, ".", "é"):
         async with session.get(url + "/pages", headers=bearer(forged)) as told:
@@ -85,6 +87,21 @@ async def _list(session: ClientSession, url: str) -> None:
         sure(listed == wanted, f"the pages{query} are {listed}")
 
 
+def _without_a_key(program: Path, folder: Path) -> None:
+    """A server that can't know anybody's token doesn't begin."""
+    (folder / "short").write_bytes(b"abc")
+    keys: list[dict[str, str]] = [{}, {"VEMODEL_KEY": str(folder / "none")}, {"VEMODEL_KEY": str(folder / "short")}]
+    for key in keys:
+        around = {name: value for name, value in os.environ.items() if name != "VEMODEL_KEY"}
+        server = cluster.Server(folder, ["--program", str(program), "--log", str(folder / "keyless.sqlite"), "--access", "tokens:visitor"],
+                                {**around, **key})
+        server.start()
+        try:
+            sure(server.status() == 1 and "Traceback" not in server.complaints, f"a server with the key {key} begins")
+        finally:
+            server.end()
+
+
 async def _all(url: str) -> None:
     async with ClientSession() as session:
         await _ask(session, url)
@@ -94,10 +111,12 @@ async def _all(url: str) -> None:
 
 def check_strangers(program: Path) -> None:
     with tempfile.TemporaryDirectory(prefix="vemodel-") as folder:
+        _without_a_key(program, Path(folder))
         key = Path(folder) / "key"
         key.write_bytes(KEY)
         server = cluster.Server(Path(folder), ["--program", str(program), "--log", str(Path(folder) / "pages.sqlite"),
-                                               "--access", "tokens:visitor"], {**os.environ, "VEMODEL_KEY": str(key)})
+                                               "--access", "tokens:visitor"], {**os.environ, "VEMODEL_KEY": str(key)},
+                                "::1" if cluster.has_ipv6() else "127.0.0.1")
         server.start()
         try:
             server.ready()

@@ -42,10 +42,17 @@ def opened(key: bytes, token: str, now: float) -> dict[str, Any] | None:
 
 @lru_cache
 def the_key() -> bytes:
-    key = Path(os.environ["VEMODEL_KEY"]).read_bytes()
+    try:
+        key = Path(os.environ["VEMODEL_KEY"]).read_bytes()
+    except (KeyError, OSError) as fault:
+        raise SystemExit(f"VEMODEL_KEY is to name the file of the key of tokens: {fault}") from fault
     if len(key) < 32:
         raise SystemExit("the key of tokens is to have 32 bytes or more")
     return key
+
+
+def ready() -> None:
+    the_key()
 
 
 def matches(patterns: list[str], page: str) -> bool:
@@ -53,8 +60,9 @@ def matches(patterns: list[str], page: str) -> bool:
 
 
 def visitor(request: web.Request) -> Visitor | None:
-    given = request.headers.get("Authorization", "")
-    token = given.removeprefix("Bearer ") if given else request.cookies.get("vemodel", "")
+    kind, _, token = request.headers.get("Authorization", "").partition(" ")
+    if kind.lower() != "bearer":
+        token = "" if kind else request.cookies.get("vemodel", "")
     claims = opened(the_key(), token, time.time())
     if claims is None:
         return None
