@@ -238,15 +238,34 @@ class Window {
     return this.call("Input.dispatchMouseEvent", { type: "mouseMoved", x: to[0], y: to[1], button: "none", buttons: 0 });
   }
 
-  // From one place to another with the button held down. `midway` is what happens meanwhile.
-  async drag(from, to, steps = 1, midway = () => {}) {
+  // From one place to another with the button held down.
+  async drag(from, to) {
     await this.#mouse("mousePressed", from);
-    for (let step = 1; step <= steps; step++) {
-      const at = [0, 1].map((k) => from[k] + ((to[k] - from[k]) * step) / steps);
-      if (step === steps / 2) await midway();
-      await this.#mouse("mouseMoved", at);
-    }
+    await this.#mouse("mouseMoved", to);
     await this.#mouse("mouseReleased", to);
+  }
+
+  // What can be dragged, from one place to another, and let go there. `midway` is what happens meanwhile. The browser takes such events in
+  // its own time, so each is waited for: that the drag has begun, that it has come to its end, and that the page was told how it ended.
+  async carry(from, to, midway = () => {}) {
+    await this.value(`globalThis.carried = { begun: false, over: [-9, -9], ended: false };
+      addEventListener("dragstart", () => (carried.begun = true), { capture: true, once: true });
+      addEventListener("dragover", ({ clientX, clientY }) => (carried.over = [clientX, clientY]), true);
+      for (const end of ["drop", "dragend"]) addEventListener(end, () => (carried.ended = true), { capture: true, once: true }); 0`);
+    await this.#mouse("mousePressed", from);
+    let step = 0;
+    const moveUntil = (what, at, condition) => until(what, async () => {
+      await this.#mouse("mouseMoved", at(++step % 2));
+      return this.value(condition);
+    });
+    const away = (odd) => [0, 1].map((k) => from[k] + Math.sign(to[k] - from[k]) * Math.min(Math.abs(to[k] - from[k]), 8 + 4 * odd));
+    await moveUntil("the drag begins", away, "carried.begun");
+    await midway();
+    await this.value("carried.over = [-9, -9]");
+    await moveUntil("the drag is at its end", (odd) => [to[0] - odd, to[1]],
+      `${JSON.stringify(to)}.every((at, k) => Math.abs(at - carried.over[k]) < 2)`);
+    await this.#mouse("mouseReleased", to);
+    await until("what was dragged is let go", () => this.value("carried.ended"));
   }
 
   // Cuts the network off, or joins it again.

@@ -56,7 +56,7 @@ export const steps = [
   ["a block that is dragged as another parts it", async (ada, ben) => {
     await clickAfter(ben, "On");
     await run(ada, [["block", "One", "two?ž", () => ben.key("Enter").then(() => holds(ada, "<p>On</p>"))]]);
-    assert.match(await notice(ada), /^Somebody changed this block/);
+    await until("it is told that the block stays", async () => /^Somebody changed this block/.test(await notice(ada)));
     await clickAfter(ada, "two?ž");
     await ada.type("!");
   }, ["<p>One</p><p>two?ž</p>", "<p>On</p><p>e</p><p>two?ž!</p>"]],

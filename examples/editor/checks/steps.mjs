@@ -33,7 +33,7 @@ const WORDS = {
   async drag(person, text, to, midway) {
     await dragOver(person, text);
     const [[x, y], [end]] = await placeOf(person, text);
-    await person.drag([(x + end) / 2, y], (await placeOf(person, to))[1], 8, midway);
+    await person.carry([(x + end) / 2, y], (await placeOf(person, to))[1], midway);
   },
 
   // The block of a text to below that of another one, by its handle.
@@ -41,7 +41,7 @@ const WORDS = {
     const [[x, y]] = await placeOf(person, text);
     await person.move([x + 2, y]);
     const [, [toX, toY]] = await placeOf(person, to);
-    await person.drag(await middleOf(person, "#grip"), [toX, toY + 6], 8, midway);
+    await person.carry(await middleOf(person, "#grip"), [toX, toY + 6], midway);
   },
 };
 

@@ -81,8 +81,10 @@ export async function tenChanges(ada, ben) {
     return shared();
   };
   const states = [await shared()];
-  for (const steps of changes) states.push(await together(steps));
-  assert.equal(new Set(states).size, changes.length + 1, "each change changes the page");
+  for (const steps of changes) {
+    states.push(await together(steps));
+    assert.notEqual(states.at(-1), states.at(-2), `this changes the page: ${JSON.stringify(steps)}`);
+  }
   for (const state of states.slice(0, -1).reverse()) assert.equal(await together([["keys", "ctrl+z"]]), state);
   for (const state of states.slice(1)) assert.equal(await together([["keys", "ctrl+y"]]), state);
 }
