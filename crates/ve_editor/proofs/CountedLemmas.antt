@@ -1,13 +1,14 @@
 -- Steps that are counted, one transaction after the other.
-use Rattle.std.proofs.Common.{◌≡◌, ◌≤◌, ℕ, ◌+◌, List, [], ◌∷◌, length, map, refl, sym, subst, arith}
+use Rattle.std.proofs.Common.{◌≡◌, ◌≤◌, ℕ, ◌+◌, ◌*◌, List, [], ◌∷◌, length, map, refl, sym, subst, arith}
 use Rattle.std.proofs.lemmas.List.{length-append, length-map}
 use Rattle.model_items.specs.declared.plain_item.PlainItem.{PlainItem}
 use Rattle.model_change.specs.Transaction.{Transaction, edited}
 use Rattle.model_change.specs.Inverse.{inverse}
 use Rattle.model_change.specs.Replay.{reversal}
+use Rattle.model_items.specs.Tree.{node_count, tree_of}
 use Rattle.model_items.specs.Cost.{cost_of_tree}
 use Rattle.model_change.specs.Cost.{cost_of_transaction, cost_of_transactions}
-use Rattle.ve_editor.specs.Counted.{steps_of_copy, steps_over}
+use Rattle.ve_editor.specs.Counted.{steps_of_blank, steps_of_copy, steps_over}
 
 first_of : (now after all a b : ℕ) → now + (a + b) ≤ all → after ≤ now + a → after ≤ all
 first_of now after all a b h k = omega arith
@@ -53,6 +54,13 @@ copy_counted : (ts : List Transaction) (items : List PlainItem) → AreSeveral t
 copy_counted [] items several = absurd (omega (arith, several))
 copy_counted (t ∷ []) items several = absurd (omega (arith, several))
 copy_counted (t ∷ u ∷ ts) items several = refl
+
+-- a page without text takes no more steps than a copy
+pub blank_within : (items : List PlainItem) (now after : ℕ) → after ≤ now + steps_of_blank → after ≤ now + cost_of_tree items
+blank_within items now after h = by (node_count (tree_of items))
+  where
+    by : (n : ℕ) → after ≤ now + 8 * (n + 2)
+    by n = omega (arith, h)
 
 -- a copy, and the transactions on it
 pub copied_within : (ts : List Transaction) (items : List PlainItem) (now copied after : ℕ) → AreSeveral ts → copied ≤ now + cost_of_tree items → after ≤ copied + cost_of_transactions ts items →

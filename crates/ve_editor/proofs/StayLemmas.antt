@@ -1,5 +1,5 @@
 -- Nodes that stay keep their numbers, over one transaction and over several.
-use Rattle.std.specs.Prelude.{OnOk}
+use Rattle.std.specs.Prelude.{OnOk, OnErr}
 use Rattle.std.proofs.Common.{◌≡◌, ◌<◌, ℕ, ◌+◌, List, [], ◌∷◌, ◌++◌, length, map, take, drop, get_or, All, Result, Ok, Err, refl, sym, ap, ◌∙◌, subst}
 use Rattle.std.proofs.lemmas.List.{map-append, drop_more, take_more}
 use Rattle.std.proofs.Math.Seq.{take-append_seam}
@@ -134,6 +134,11 @@ unchanged_as old new e = record {
   nodes = λ q. ap (λ (p : LinkedPage). slot_at p.nodes.slots q) e;
   root = ap (λ (p : LinkedPage). p.nodes.root) e;
 }
+
+-- the page was moved out and back, under other names
+pub unchanged_moved : {A E : Type 0} (result : Result A E) (old moved back new : LinkedPage) → moved ≡ old → new ≡ back → OnErr result (back ≡ moved) → OnErr result (IsUnchanged old new)
+unchanged_moved (Ok x) old moved back new was is same = tt
+unchanged_moved (Err x) old moved back new was is same = unchanged_as old new (is ∙ same ∙ was)
 
 -- the store had taken values, which are cut off again
 pub unchanged_cut : (old : LinkedPage) (store new cut : List Value) (n : ℕ) (items list : List Item) (selected : Selection) (was is : Tree) →

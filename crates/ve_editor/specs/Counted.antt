@@ -9,12 +9,12 @@ use Rattle.model_change.specs.Cost.{cost_of_transactions}
 abbrev pub steps_of_blank : ℕ
 steps_of_blank = 8
 
--- those of a copy of the page, on which transactions are made where there are several
+-- those of a copy of the page, which are allowed where there are several transactions
 abbrev pub steps_of_copy : List Transaction → List PlainItem → ℕ
 steps_of_copy [] items = 0
 steps_of_copy (t ∷ []) items = 0
 steps_of_copy (t ∷ u ∷ ts) items = cost_of_tree items
 
--- those of that copy, and of the transactions
+-- those, and those of the transactions
 abbrev pub steps_over : List Transaction → List PlainItem → ℕ
 steps_over ts items = steps_of_copy ts items + cost_of_transactions ts items

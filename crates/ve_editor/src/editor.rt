@@ -6,18 +6,18 @@ ghost use Rattle.model_items.specs.Tree.{tree_of, node_count};
 ghost use Rattle.model_edit.specs.Translate.{between};
 ghost use Rattle.model_site.specs.Entries.{cut_back, entry_against, entry_of, reverted};
 ghost use Rattle.model_site.specs.Refused.{edit_cause};
-ghost use Rattle.model_change.specs.Fault.{Applies};
-ghost use Rattle.model_change.specs.Inverse.{filled};
-ghost use Rattle.model_change.specs.Transaction.{edited};
 ghost use Rattle.model_site.specs.Replica.{all_filled, all_performed, all_put_back, performed, put_back};
 ghost use Rattle.ve_tx.specs.Cites.{TxCites};
 ghost use Rattle.ve_tx.specs.Operation.{by_value};
-ghost use Rattle.ve_tree.specs.IsTree.{IsTree, unvalued};
+ghost use Rattle.ve_tree.specs.IsTree.{unvalued};
 ghost use Rattle.model_items.specs.Cost.{cost_of_tree};
 
-use crate::perform::{ready, ready_back, ready_other};
+use crate::in_place::InPlace;
+use crate::noted::NoNotes;
+use crate::perform::ready;
 use crate::prepare::commit;
 use crate::selected::moved;
+use crate::several::{all_back, all_others};
 use model_edit::Selection;
 use model_site::EditFault;
 use std::alloc::Global;
@@ -76,7 +76,7 @@ impl Editor {
     ghost use Rattle.ve_editor.specs.Edited.{IsDraftOf, drafted, entry_by_value, EntryCites, AllStand, CanBeReverted, CutsUncited, IsUncited, reversal_over};
     ghost use Rattle.ve_tx.specs.ByValue.{parcel_by_value, ParcelCites};
     ghost use Rattle.ve_editor.specs.Refusal.{IsEditRefusal};
-    ghost use Rattle.model_change.specs.Cost.{cost_of_transaction, cost_of_transactions};
+    ghost use Rattle.model_change.specs.Cost.{cost_of_transaction};
     ghost use Rattle.ve_editor.specs.Counted.{steps_of_blank, steps_over};
 
     /// An editor of a lawful list whose items cite values of the store, with the selection at the
@@ -215,6 +215,7 @@ impl Editor {
             &mut self.list,
             &mut self.store,
             &mut self.tree,
+            &mut NoNotes,
             draft,
             steps,
         ) {
@@ -235,55 +236,6 @@ impl Editor {
         }
     }
 
-    /// Makes a transaction of a reversal, which applies and leaves a lawful list. An `Err` changes
-    /// nothing.
-    pub(crate) fn put_back<L: Ledger>(
-        &mut self,
-        tx: &Transaction,
-        steps: &mut Steps<L>,
-    ) -> Result<(), Memory>
-        requires cites { TxCites self.old.store tx.now }
-        requires applies { Applies (by_value self.old.store tx.now) self.old.items }
-        requires lawful { Lawful (edited (by_value self.old.store tx.now) self.old.items) }
-        ensures page { OnOk result (
-            replica_of self.new
-            ≡ put_back (by_value self.old.store tx.now) (replica_of self.old)) }
-        ensures numbers { OnOk result (
-            NumbersStay (by_value self.old.store tx.now) self.old.items self.old.nodes
-            self.new.nodes) }
-        ensures tree { OnOk result (
-            IsTree self.new.nodes.slots self.new.nodes.root self.new.items) }
-        ensures kept { OnErr result (IsUnchanged self.old self.new) }
-        ensures counted { steps.old ≤ steps.new }
-        ensures steps { steps.new
-            ≤ steps.old + cost_of_transaction (by_value self.old.store tx.now) self.old.items }
-    {
-        let before = self.store.len();
-        match ready_back(
-            self.alloc,
-            &mut self.list,
-            &mut self.store,
-            &mut self.tree,
-            tx,
-            steps,
-        ) {
-            Ok(change) => {
-                commit(&mut self.list, change);
-                let doc = Doc {
-                    list: &self.list,
-                    tree: &self.tree,
-                    store: &self.store,
-                };
-                self.selection = moved(doc, tx, self.selection);
-                Ok(())
-            }
-            Err(Memory) => {
-                self.store.truncate(before);
-                Err(Memory)
-            }
-        }
-    }
-
     /// Cuts the values of an entry off the store, where they are the last of it; before it was
     /// taken back the store had so many.
     pub(crate) fn cut_back(&mut self, entry: &Entry, was: usize)
@@ -299,8 +251,8 @@ impl Editor {
         }
     }
 
-    /// Makes the reversal of transactions. That of one is made in place, and that of several on a
-    /// copy, so that want of memory in the second leaves nothing of the first.
+    /// Makes the reversal of transactions. That of one is made at once, and that of several on a
+    /// trial, so that want of memory in the second leaves nothing of the first.
     fn put_entry_back<L: Ledger>(
         &mut self,
         txs: &[Transaction],
@@ -326,70 +278,15 @@ impl Editor {
             let back = txs[0].inverse(self.alloc)?;
             return self.put_back(&back, steps);
         }
-        let mut copy = self.share(steps)?;
-        copy.put_all_back(txs, steps)?;
-        *self = copy;
-        Ok(())
-    }
-
-    /// Performs a transaction that cites a list of values, applies and leaves a lawful list, and
-    /// gives it as an entry keeps it. An `Err` changes nothing.
-    pub(crate) fn perform_other<L: Ledger>(
-        &mut self,
-        tx: &Transaction,
-        values: &[Value],
-        steps: &mut Steps<L>,
-    ) -> Result<TxList, Memory>
-        requires cites { TxCites values.now tx.now }
-        requires applies { Applies (by_value values.now tx.now) self.old.items }
-        requires lawful { Lawful (edited (by_value values.now tx.now) self.old.items) }
-        ensures page { OnOk result (
-            replica_of self.new ≡ performed (by_value values.now tx.now) (replica_of self.old)) }
-        ensures numbers { OnOk result (
-            NumbersStay (by_value values.now tx.now) self.old.items self.old.nodes
-            self.new.nodes) }
-        ensures tree { OnOk result (
-            IsTree self.new.nodes.slots self.new.nodes.root self.new.items) }
-        ensures txs { IfOk result (λ txs.
-            map (by_value self.new.store) txs
-            ≡ filled (by_value values.now tx.now) self.old.items ∷ []) }
-        ensures cites { IfOk result (λ txs. All (TxCites self.new.store) txs) }
-        ensures kept { OnErr result (IsUnchanged self.old self.new) }
-        ensures counted { steps.old ≤ steps.new }
-        ensures steps { steps.new
-            ≤ steps.old + cost_of_transaction (by_value values.now tx.now) self.old.items }
-    {
-        let stored = self.store.len();
-        match ready_other(
-            self.alloc,
-            &mut self.list,
-            &mut self.store,
-            &mut self.tree,
-            tx,
-            values,
-            steps,
-        ) {
-            Ok(admitting) => {
-                commit(&mut self.list, admitting.change);
-                let doc = Doc {
-                    list: &self.list,
-                    tree: &self.tree,
-                    store: &self.store,
-                };
-                let selection = self.selection;
-                self.selection = moved(doc, tx, selection);
-                Ok(admitting.txs)
-            }
-            Err(Memory) => {
-                self.store.truncate(stored);
-                Err(Memory)
-            }
-        }
+        let blank = Editor::blank(self.alloc, steps)?;
+        let (editor, result) = all_back(std::mem::replace(self, blank), txs, steps);
+        *self = editor;
+        result
     }
 
     /// Performs transactions that cite a list of values, one after the other, and gives them as an
-    /// entry keeps them. One is performed in place, and several on a copy, so that want of memory in
-    /// the second leaves nothing of the first. An `Err` changes nothing.
+    /// entry keeps them. One is performed at once, and several on a trial, so that want of memory
+    /// in the second leaves nothing of the first. An `Err` changes nothing.
     fn admit_all<L: Ledger>(
         &mut self,
         txs: &[Transaction],
@@ -419,10 +316,10 @@ impl Editor {
         if txs.len() == 1 {
             return self.perform_other(&txs[0], values, steps);
         }
-        let mut grown = self.share(steps)?;
-        let kept = grown.perform_others(txs, values, steps)?;
-        *self = grown;
-        Ok(kept)
+        let blank = Editor::blank(self.alloc, steps)?;
+        let (editor, result) = all_others(std::mem::replace(self, blank), txs, values, steps);
+        *self = editor;
+        result
     }
 
     /// Performs another's parcel, and gives it as an entry. That has the same transactions over

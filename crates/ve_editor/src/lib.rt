@@ -29,7 +29,8 @@
 //! takes no step of its own. The tree can go back to the nodes that it had. Of the list it is noted
 //! what each change takes out, and the list keeps room for that; the store only grows meanwhile, and
 //! is cut. So going back takes no memory. An attempt takes the steps of its changes, and at most
-//! eight more, which make a page without text.
+//! eight more, which make a page without text. `revert` and `admit` make several transactions on a
+//! trial, too.
 //!
 //! Definitions, in reading order: `Page` (the invariant of the type and its view), `Stays` (which
 //! nodes keep their numbers), `Edited` (drafts and entries by value; what may be performed or taken
@@ -45,10 +46,10 @@
 //! `revert` asks that its reversals apply and leave lawful lists, and that no value is cut that
 //! stays cited. So its one refusal is want of memory. Values are cut off after the last reversal.
 //!
-//! A copied node is a step. The bound of one transaction doesn't grow with the page, and that of
-//! several has one copy of it. So an editor that copied the page for each undo wouldn't meet the
-//! bound. Who makes many entries at once copies the page once, and calls `admit_in_place` and
-//! `revert_in_place` on the copy, whose bounds have no copy.
+//! A copied node is a step. The bound of one transaction doesn't grow with the page, so an editor
+//! that copied the page for each undo wouldn't meet it. That of several would allow one copy, though
+//! none is made. Who makes many entries at once copies the page once, and calls `admit_in_place`
+//! and `revert_in_place` on the copy, whose bounds have no copy.
 #![tactic(auto)]
 
 mod attempt;
@@ -61,6 +62,7 @@ mod noted;
 mod perform;
 mod prepare;
 mod selected;
+mod several;
 mod trial;
 mod values;
 mod verdict;

@@ -1,10 +1,10 @@
 // A draft made ready to be performed, and a transaction to be taken back: all that may fail, before
-// the list changes. The tree becomes that of the new list last of all.
+// the list changes. What takes the change back is noted, on a trial; the tree becomes that of the
+// new list last of all.
 ghost use Rattle.std.specs.Prelude.{◌≡◌, ◌≢◌, ◌≤◌, ◌+◌, [], ◌∷◌, All, None, length, map, IfOk, IfErr, OnOk, OnErr};
 ghost use Rattle.model_items.specs.Law.{Lawful};
 ghost use Rattle.model_items.specs.Plain.{plain_list, CitesWell};
 ghost use Rattle.model_change.specs.Fault.{Applies};
-ghost use Rattle.model_change.specs.Store.{changed_heads, fill};
 ghost use Rattle.model_change.specs.Transaction.{edited};
 ghost use Rattle.model_edit.specs.Translate.{between};
 ghost use Rattle.model_site.specs.Refused.{edit_cause};
@@ -25,6 +25,7 @@ ghost use Rattle.ve_editor.specs.Refusal.{IsEditRefusal};
 ghost use Rattle.ve_editor.specs.Stays.{NumbersStay};
 
 use crate::checked::checked;
+use crate::noted::Notes;
 use crate::prepare::prepare;
 use model_site::EditFault;
 use std::alloc::Global;
@@ -138,14 +139,15 @@ pub fn with_entry<L: Ledger>(
 }
 
 /// Makes a draft ready to be performed on a page, or says why it is not performed. The store takes
-/// its values and the list room. Then the tree becomes that of the list after the change, in which
-/// nodes that stay keep their numbers. An `Err` leaves it the list's, and may leave values after
-/// those that were there.
-pub fn ready<L: Ledger>(
+/// its values and the list room, and what takes its change back is noted. Then the tree becomes
+/// that of the list after the change, in which nodes that stay keep their numbers. An `Err` leaves
+/// it the list's, and may leave values and notes after those that were there.
+pub fn ready<N: Notes, L: Ledger>(
     alloc: Global,
     list: &mut Linear,
     store: &mut Store,
     tree: &mut Tree,
+    notes: &mut N,
     draft: &Draft,
     steps: &mut Steps<L>,
 ) -> Result<Performing, EditFault>
@@ -159,11 +161,15 @@ pub fn ready<L: Ledger>(
         IsEditRefusal (
         edit_cause (drafted store.old draft.now) (
         page_of store.old list.old.items (between 0 0)))) }
+    ensures notes { IfOk result (λ ready.
+        N.have notes.old list.old.items ready.change.splices.items list.new.spare notes.new) }
+    ensures front { N.keep notes.old notes.new }
     ensures root { tree.new.root ≡ tree.old.root }
     ensures kept { OnErr result (IsTreeOf tree.new (unvalued list.old.items)) }
     ensures same { OnErr result (SameNodes tree.old.arena.slots tree.new.arena.slots) }
     ensures first { tree.new.arena.first ≡ tree.old.arena.first }
     ensures items { list.new.items ≡ list.old.items }
+    ensures spare { list.old.spare ≤ list.new.spare }
     ensures extends { Extends store.old store.new }
     ensures counted { steps.old ≤ steps.new }
     ensures steps { steps.new
@@ -175,6 +181,10 @@ pub fn ready<L: Ledger>(
 {
     let before = store.len();
     let change = checked(alloc, list, store, tree, draft)?;
+    match notes.note_change(alloc, list, &change) {
+        Ok(()) => {}
+        Err(Memory) => return Err(EditFault::Memory),
+    }
     match with_entry(alloc, list, store, tree, &draft.tx, before, change, steps) {
         Ok(ready) => Ok(ready),
         Err(Memory) => Err(EditFault::Memory),
@@ -182,14 +192,15 @@ pub fn ready<L: Ledger>(
 }
 
 /// Makes a transaction ready that applies to a page and leaves it lawful. The store takes the heads
-/// that it changes and the list room. Then the tree becomes that of the list after the change, in
-/// which nodes that stay keep their numbers. An `Err` leaves it the list's, and may leave values
-/// after those that were there.
-pub fn ready_back<L: Ledger>(
+/// that it changes and the list room, and what takes its change back is noted. Then the tree
+/// becomes that of the list after the change, in which nodes that stay keep their numbers. An `Err`
+/// leaves it the list's, and may leave values and notes after those that were there.
+pub fn ready_back<N: Notes, L: Ledger>(
     alloc: Global,
     list: &mut Linear,
     store: &mut Store,
     tree: &mut Tree,
+    notes: &mut N,
     tx: &Transaction,
     steps: &mut Steps<L>,
 ) -> Result<Change, Memory>
@@ -204,11 +215,15 @@ pub fn ready_back<L: Ledger>(
     ensures numbers { OnOk result (
         KeepsNumbers tree.old.arena.slots tree.new.arena.slots tree.old.root tx.now
         list.old.items) }
+    ensures notes { IfOk result (λ change.
+        N.have notes.old list.old.items change.splices.items list.new.spare notes.new) }
+    ensures front { N.keep notes.old notes.new }
     ensures root { tree.new.root ≡ tree.old.root }
     ensures kept { OnErr result (IsTreeOf tree.new (unvalued list.old.items)) }
     ensures same { OnErr result (SameNodes tree.old.arena.slots tree.new.arena.slots) }
     ensures first { tree.new.arena.first ≡ tree.old.arena.first }
     ensures items { list.new.items ≡ list.old.items }
+    ensures spare { list.old.spare ≤ list.new.spare }
     ensures extends { Extends store.old store.new }
     ensures counted { steps.old ≤ steps.new }
     ensures steps { steps.new
@@ -216,6 +231,7 @@ pub fn ready_back<L: Ledger>(
 {
     match tx.change(alloc, list, store) {
         Ok(change) => {
+            notes.note_change(alloc, list, &change)?;
             prepare(alloc, list, tree, tx, steps)?;
             Ok(change)
         }
@@ -224,14 +240,15 @@ pub fn ready_back<L: Ledger>(
 }
 
 /// Makes a transaction ready that cites a list of values, applies to a page and leaves it lawful.
-/// The store takes its values and the list room. Then the tree becomes that of the list after the
-/// change, in which nodes that stay keep their numbers. An `Err` leaves it the list's, and may
-/// leave values after those that were there.
-pub fn ready_other<L: Ledger>(
+/// The store takes its values and the list room, and what takes its change back is noted. Then the
+/// tree becomes that of the list after the change, in which nodes that stay keep their numbers. An
+/// `Err` leaves it the list's, and may leave values and notes after those that were there.
+pub fn ready_other<N: Notes, L: Ledger>(
     alloc: Global,
     list: &mut Linear,
     store: &mut Store,
     tree: &mut Tree,
+    notes: &mut N,
     tx: &Transaction,
     values: &[Value],
     steps: &mut Steps<L>,
@@ -247,11 +264,15 @@ pub fn ready_other<L: Ledger>(
     ensures numbers { OnOk result (
         NumbersStay (by_value values.now tx.now) (plain_list store.old list.old.items)
         (nodes_of_tree tree.old) (nodes_of_tree tree.new)) }
+    ensures notes { IfOk result (λ admitting.
+        N.have notes.old list.old.items admitting.change.splices.items list.new.spare notes.new) }
+    ensures front { N.keep notes.old notes.new }
     ensures root { tree.new.root ≡ tree.old.root }
     ensures kept { OnErr result (IsTreeOf tree.new (unvalued list.old.items)) }
     ensures same { OnErr result (SameNodes tree.old.arena.slots tree.new.arena.slots) }
     ensures first { tree.new.arena.first ≡ tree.old.arena.first }
     ensures items { list.new.items ≡ list.old.items }
+    ensures spare { list.old.spare ≤ list.new.spare }
     ensures extends { Extends store.old store.new }
     ensures counted { steps.old ≤ steps.new }
     ensures steps { steps.new
@@ -261,6 +282,6 @@ pub fn ready_other<L: Ledger>(
     let _ops = tx.ops();
     let own = tx.recite(alloc, values, store)?;
     let txs = one_filled(alloc, list, store, &own)?;
-    let change = ready_back(alloc, list, store, tree, &own, steps)?;
+    let change = ready_back(alloc, list, store, tree, notes, &own, steps)?;
     Ok(Admitting { txs, change })
 }

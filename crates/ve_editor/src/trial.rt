@@ -1,5 +1,5 @@
 // A page on which changes are made for a try.
-ghost use Rattle.std.specs.Prelude.{◌≡◌, ◌≢◌, ◌≤◌, ◌+◌, ◌∷◌, [], None, IfOk, IfErr, OnOk, OnErr};
+ghost use Rattle.std.specs.Prelude.{◌≡◌, ◌≢◌, ◌≤◌, ◌+◌, ◌∷◌, [], None, Some, IfOk, IfErr, OnOk, OnErr};
 ghost use Rattle.model_change.specs.Cost.{cost_of_transaction};
 ghost use Rattle.model_items.specs.Plain.{plain_list};
 ghost use Rattle.model_site.specs.Entries.{entry_of};
@@ -9,7 +9,8 @@ ghost use Rattle.ve_tree.specs.IsTree.{IsTree};
 
 use crate::Editor;
 use crate::back::Back;
-use crate::noted::ready_on_trial;
+use crate::in_place::InPlace;
+use crate::perform::{ready, ready_back, ready_other};
 use crate::prepare::commit;
 use crate::selected::moved;
 use model_edit::Selection;
@@ -17,12 +18,12 @@ use model_site::EditFault;
 use std::alloc::Global;
 use std::marker::Model;
 use std::sync::ledger::Ledger;
-use ve_base::{Memory, Steps};
+use ve_base::{Memory, Steps, Value};
 use ve_items::Linear;
 use ve_offsets::Doc;
 use ve_store::Store;
 use ve_tree::Tree;
-use ve_tx::{Draft, Entry};
+use ve_tx::{Draft, Entry, Transaction, TxList};
 
 /// A page on which changes are made in place, and which can go back to what it was before the
 /// first of them. Going back takes no memory, so it never fails. The view is the page as it is, and
@@ -179,7 +180,7 @@ impl Trial {
     {
         let before = self.store.len();
         let noted = self.back.len();
-        match ready_on_trial(
+        match ready(
             self.alloc,
             &mut self.list,
             &mut self.store,
@@ -255,6 +256,83 @@ impl Trial {
             tree,
             selection: first_selection,
             alloc,
+        }
+    }
+}
+
+impl InPlace for Trial {
+    ghost shown = { λ t. t.page };
+
+    ghost start = { λ t. Some t.first };
+
+    fn put_back<L: Ledger>(
+        &mut self,
+        tx: &Transaction,
+        steps: &mut Steps<L>,
+    ) -> Result<(), Memory> {
+        let before = self.store.len();
+        let noted = self.back.len();
+        match ready_back(
+            self.alloc,
+            &mut self.list,
+            &mut self.store,
+            &mut self.tree,
+            &mut self.back,
+            tx,
+            steps,
+        ) {
+            Ok(change) => {
+                commit(&mut self.list, change);
+                let doc = Doc {
+                    list: &self.list,
+                    tree: &self.tree,
+                    store: &self.store,
+                };
+                self.selection = moved(doc, tx, self.selection);
+                Ok(())
+            }
+            Err(Memory) => {
+                self.store.truncate(before);
+                self.back.truncate(noted);
+                Err(Memory)
+            }
+        }
+    }
+
+    fn perform_other<L: Ledger>(
+        &mut self,
+        tx: &Transaction,
+        values: &[Value],
+        steps: &mut Steps<L>,
+    ) -> Result<TxList, Memory> {
+        let stored = self.store.len();
+        let noted = self.back.len();
+        match ready_other(
+            self.alloc,
+            &mut self.list,
+            &mut self.store,
+            &mut self.tree,
+            &mut self.back,
+            tx,
+            values,
+            steps,
+        ) {
+            Ok(admitting) => {
+                commit(&mut self.list, admitting.change);
+                let doc = Doc {
+                    list: &self.list,
+                    tree: &self.tree,
+                    store: &self.store,
+                };
+                let selection = self.selection;
+                self.selection = moved(doc, tx, selection);
+                Ok(admitting.txs)
+            }
+            Err(Memory) => {
+                self.store.truncate(stored);
+                self.back.truncate(noted);
+                Err(Memory)
+            }
         }
     }
 }

@@ -40,12 +40,12 @@ returns-clause-page g c =
     let entry = c.args.entry.now in
     let was : c.len-was.result ≡ length r.store = c.len-was.ensures.count ∙ ap (λ (q : LinkedPage). length q.store) c.self.view_is in
     let page = c.in_ok-put_all_back.ensures.page ∙ ap (λ l. all_put_back (reversal_over r.store l) (replica_of r)) c.as_slice.ensures in
-    reverted_is (entry_by_value r.store entry) (replica_of r) c.put_all_back.new.self c.cut_back.new.self c.len-was.result page c.cut_back.ensures was
+    reverted_is (entry_by_value r.store entry) (replica_of r) c.put_all_back.new.target c.cut_back.new.self c.len-was.result page c.cut_back.ensures was
 
 pub returns-clause-numbers : goal.returns-clause-numbers
 returns-clause-numbers g c =
     let r = c.args.self.now in
     let entry = c.args.entry.now in
-    let nodes = nodes_stand c.put_all_back.new.self c.cut_back.new.self (cut_back (entry_by_value r.store entry) c.len-was.result c.put_all_back.new.self.store) c.cut_back.ensures in
+    let nodes = nodes_stand c.put_all_back.new.target c.cut_back.new.self (cut_back (entry_by_value r.store entry) c.len-was.result c.put_all_back.new.target.store) c.cut_back.ensures in
     subst (NumbersStayOver (reversal_over r.store c.args.entry.now.txs) r.items r.nodes) nodes
-    (subst (λ l. NumbersStayOver (reversal_over r.store l) r.items r.nodes c.put_all_back.new.self.nodes) c.as_slice.ensures c.in_ok-put_all_back.ensures.numbers)
+    (subst (λ l. NumbersStayOver (reversal_over r.store l) r.items r.nodes c.put_all_back.new.target.nodes) c.as_slice.ensures c.in_ok-put_all_back.ensures.numbers)

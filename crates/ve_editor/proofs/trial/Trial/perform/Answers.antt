@@ -20,58 +20,58 @@ use Rattle.ve_editor.proofs.trial.Trial.perform.Goals as goal
 pub invariant_of-self : goal.invariant_of-self
 invariant_of-self g c =
     let t = c.self.inside in
-    let new = c.ready_on_trial.new.store in
+    let new = c.ready.new.store in
     let will = c.in-Ok.ensures.ok.change in (
       record {
         cites = subst (λ (l : List Item). All (CitesWell new) l) (sym c.commit.ensures.items) will.cites;
-        tree = subst (λ (l : List Item). IsTreeOf c.ready_on_trial.new.tree (unvalued l)) (sym c.commit.ensures.items) will.tree;
+        tree = subst (λ (l : List Item). IsTreeOf c.ready.new.tree (unvalued l)) (sym c.commit.ensures.items) will.tree;
       },
-      goes_back t.store new t.list c.ready_on_trial.new.list c.commit.new.list c.in-Ok.performing.change.splices.items t.back c.ready_on_trial.new.back t.values t.tree c.ready_on_trial.new.tree c.self.invariant.1
-          c.ready_on_trial.ensures.extends c.ready_on_trial.ensures.items will.fits.within c.commit.ensures.items c.in-Ok.ensures.notes c.ready_on_trial.ensures.first c.ready_on_trial.ensures.root c.in-Ok.ensures.owed c.commit.ensures.spare,
+      goes_back t.store new t.list c.ready.new.list c.commit.new.list c.in-Ok.performing.change.splices.items t.back c.ready.new.notes t.values t.tree c.ready.new.tree c.self.invariant.1
+          c.ready.ensures.extends c.ready.ensures.items will.fits.within c.commit.ensures.items c.in-Ok.ensures.notes.0 c.ready.ensures.first c.ready.ensures.root c.in-Ok.ensures.notes.1 c.commit.ensures.spare,
     )
 
 pub invariant_of-self-in-Err : goal.invariant_of-self-in-Err
 invariant_of-self-in-Err g c =
     let t = c.self.inside in
-    let values = values_cut t.store c.ready_on_trial.new.store c.truncate.new.self c.len-before.result c.ready_on_trial.ensures.extends c.len-before.ensures.count c.truncate.ensures in
-    let notes = notes_cut t.back c.ready_on_trial.new.back c.truncate-in-Err.new.self c.len-noted.result c.ready_on_trial.ensures.front c.len-noted.ensures c.truncate-in-Err.ensures in (
-      page_cut t.store c.truncate.new.self t.list.items c.ready_on_trial.new.list.items c.ready_on_trial.new.tree c.self.invariant.0.cites values c.ready_on_trial.ensures.items c.in-Err.ensures.kept,
-      still_goes_back t.store c.truncate.new.self t.list c.ready_on_trial.new.list t.back c.truncate-in-Err.new.self t.values t.tree c.ready_on_trial.new.tree c.self.invariant.1
-          values c.ready_on_trial.ensures.items c.ready_on_trial.ensures.spare notes c.ready_on_trial.ensures.first c.ready_on_trial.ensures.root,
+    let values = values_cut t.store c.ready.new.store c.truncate.new.self c.len-before.result c.ready.ensures.extends c.len-before.ensures.count c.truncate.ensures in
+    let notes = notes_cut t.back c.ready.new.notes c.truncate-in-Err.new.self c.len-noted.result c.ready.ensures.front c.len-noted.ensures c.truncate-in-Err.ensures in (
+      page_cut t.store c.truncate.new.self t.list.items c.ready.new.list.items c.ready.new.tree c.self.invariant.0.cites values c.ready.ensures.items c.in-Err.ensures.kept,
+      still_goes_back t.store c.truncate.new.self t.list c.ready.new.list t.back c.truncate-in-Err.new.self t.values t.tree c.ready.new.tree c.self.invariant.1
+          values c.ready.ensures.items c.ready.ensures.spare notes c.ready.ensures.first c.ready.ensures.root,
     )
 
 pub returns-in-Ok-clause-allowed : goal.returns-in-Ok-clause-allowed
 returns-in-Ok-clause-allowed g c =
     ap (λ (t : Tried). edit_cause (drafted t.page.store c.args.draft.now) (replica_of t.page)) (sym c.self.view_is)
-    ∙ allowed_is c.args.draft.now c.self.inside.store c.ready_on_trial.new.store c.self.inside.list.items c.self.inside.selection c.ready_on_trial.new.list c.ready_on_trial.new.tree c.in-Ok.performing c.in-Ok.ensures.ok
-    c.ready_on_trial.ensures.items
+    ∙ allowed_is c.args.draft.now c.self.inside.store c.ready.new.store c.self.inside.list.items c.self.inside.selection c.ready.new.list c.ready.new.tree c.in-Ok.performing c.in-Ok.ensures.ok
+    c.ready.ensures.items
 
 pub returns-in-Ok-clause-page : goal.returns-in-Ok-clause-page
 returns-in-Ok-clause-page g c =
-    performed_is c.args.draft.now c.self.inside.store c.ready_on_trial.new.store c.self.inside.list.items c.self.inside.selection c.ready_on_trial.new.list c.ready_on_trial.new.tree c.in-Ok.performing c.in-Ok.ensures.ok
-    c.ready_on_trial.ensures.items c.commit.new.list.items c.moved-self-inside.result c.commit.ensures.items
-    (c.moved-self-inside.ensures c.ready_on_trial.new.store (drafted_values c.self.inside.store c.args.draft.now))
+    performed_is c.args.draft.now c.self.inside.store c.ready.new.store c.self.inside.list.items c.self.inside.selection c.ready.new.list c.ready.new.tree c.in-Ok.performing c.in-Ok.ensures.ok
+    c.ready.ensures.items c.commit.new.list.items c.moved-self-inside.result c.commit.ensures.items
+    (c.moved-self-inside.ensures c.ready.new.store (drafted_values c.self.inside.store c.args.draft.now))
     ∙ ap (λ (t : Tried). performed (drafted t.page.store c.args.draft.now) (replica_of t.page)) c.self.view_is
 
 pub returns-in-Ok-clause-first : goal.returns-in-Ok-clause-first
 returns-in-Ok-clause-first g c =
     let t = c.self.inside in
-    first_stays t.store c.ready_on_trial.new.store t.list c.ready_on_trial.new.list c.commit.new.list c.in-Ok.performing.change.splices.items t.back c.ready_on_trial.new.back t.values t.tree c.ready_on_trial.new.tree c.self.invariant.1
-    c.ready_on_trial.ensures.extends c.ready_on_trial.ensures.items c.in-Ok.ensures.ok.change.fits.within c.commit.ensures.items c.in-Ok.ensures.notes c.ready_on_trial.ensures.first c.ready_on_trial.ensures.root t.first_selection
+    first_stays t.store c.ready.new.store t.list c.ready.new.list c.commit.new.list c.in-Ok.performing.change.splices.items t.back c.ready.new.notes t.values t.tree c.ready.new.tree c.self.invariant.1
+    c.ready.ensures.extends c.ready.ensures.items c.in-Ok.ensures.ok.change.fits.within c.commit.ensures.items c.in-Ok.ensures.notes.0 c.ready.ensures.first c.ready.ensures.root t.first_selection
     ∙ ap (λ (t : Tried). t.first) c.self.view_is
 
 pub returns-in-Err-clause-first : goal.returns-in-Err-clause-first
 returns-in-Err-clause-first g c =
     let t = c.self.inside in
-    let values = values_cut t.store c.ready_on_trial.new.store c.truncate.new.self c.len-before.result c.ready_on_trial.ensures.extends c.len-before.ensures.count c.truncate.ensures in
-    let notes = notes_cut t.back c.ready_on_trial.new.back c.truncate-in-Err.new.self c.len-noted.result c.ready_on_trial.ensures.front c.len-noted.ensures c.truncate-in-Err.ensures in
-    first_still t.store c.truncate.new.self t.list c.ready_on_trial.new.list t.back c.truncate-in-Err.new.self t.values t.first_selection t.tree c.ready_on_trial.new.tree c.self.invariant.1
-    values c.ready_on_trial.ensures.items notes c.ready_on_trial.ensures.first c.ready_on_trial.ensures.root
+    let values = values_cut t.store c.ready.new.store c.truncate.new.self c.len-before.result c.ready.ensures.extends c.len-before.ensures.count c.truncate.ensures in
+    let notes = notes_cut t.back c.ready.new.notes c.truncate-in-Err.new.self c.len-noted.result c.ready.ensures.front c.len-noted.ensures c.truncate-in-Err.ensures in
+    first_still t.store c.truncate.new.self t.list c.ready.new.list t.back c.truncate-in-Err.new.self t.values t.first_selection t.tree c.ready.new.tree c.self.invariant.1
+    values c.ready.ensures.items notes c.ready.ensures.first c.ready.ensures.root
     ∙ ap (λ (t : Tried). t.first) c.self.view_is
 
 pub returns-in-Ok-clause-steps : goal.returns-in-Ok-clause-steps
 returns-in-Ok-clause-steps g c =
-    subst (λ (t : Tried). c.ready_on_trial.new.steps ≤ c.args.steps.now + cost_of_transaction (drafted t.page.store c.args.draft.now) t.page.items) c.self.view_is c.ready_on_trial.ensures.steps
+    subst (λ (t : Tried). c.ready.new.steps ≤ c.args.steps.now + cost_of_transaction (drafted t.page.store c.args.draft.now) t.page.items) c.self.view_is c.ready.ensures.steps
 
 pub returns-in-Err-clause-refused : goal.returns-in-Err-clause-refused
 returns-in-Err-clause-refused g c =
@@ -80,35 +80,35 @@ returns-in-Err-clause-refused g c =
 pub returns-in-Err-clause-kept : goal.returns-in-Err-clause-kept
 returns-in-Err-clause-kept g c =
     let t = c.self.inside in
-    unchanged_cut c.args.self.now.page t.store c.ready_on_trial.new.store c.truncate.new.self c.len-before.result t.list.items c.ready_on_trial.new.list.items t.selection t.tree c.ready_on_trial.new.tree
-    (ap (λ (t : Tried). t.page) c.self.view_is) c.ready_on_trial.ensures.extends c.len-before.ensures.count c.truncate.ensures c.ready_on_trial.ensures.items c.in-Err.ensures.same c.ready_on_trial.ensures.root
+    unchanged_cut c.args.self.now.page t.store c.ready.new.store c.truncate.new.self c.len-before.result t.list.items c.ready.new.list.items t.selection t.tree c.ready.new.tree
+    (ap (λ (t : Tried). t.page) c.self.view_is) c.ready.ensures.extends c.len-before.ensures.count c.truncate.ensures c.ready.ensures.items c.in-Err.ensures.same c.ready.ensures.root
 
 pub returns-in-Err-clause-steps : goal.returns-in-Err-clause-steps
 returns-in-Err-clause-steps g c =
-    subst (λ (t : Tried). c.ready_on_trial.new.steps ≤ c.args.steps.now + cost_of_transaction (drafted t.page.store c.args.draft.now) t.page.items) c.self.view_is c.ready_on_trial.ensures.steps
+    subst (λ (t : Tried). c.ready.new.steps ≤ c.args.steps.now + cost_of_transaction (drafted t.page.store c.args.draft.now) t.page.items) c.self.view_is c.ready.ensures.steps
 
 pub returns-in-Ok-clause-steps_if_allowed : goal.returns-in-Ok-clause-steps_if_allowed
 returns-in-Ok-clause-steps_if_allowed g c =
-    subst (λ (t : Tried). edit_cause (drafted t.page.store c.args.draft.now) (replica_of t.page) ≢ None → c.ready_on_trial.new.steps ≡ c.args.steps.now) c.self.view_is c.ready_on_trial.ensures.steps_if_allowed
+    subst (λ (t : Tried). edit_cause (drafted t.page.store c.args.draft.now) (replica_of t.page) ≢ None → c.ready.new.steps ≡ c.args.steps.now) c.self.view_is c.ready.ensures.steps_if_allowed
 
 pub returns-in-Err-clause-steps_if_allowed : goal.returns-in-Err-clause-steps_if_allowed
 returns-in-Err-clause-steps_if_allowed g c =
-    subst (λ (t : Tried). edit_cause (drafted t.page.store c.args.draft.now) (replica_of t.page) ≢ None → c.ready_on_trial.new.steps ≡ c.args.steps.now) c.self.view_is c.ready_on_trial.ensures.steps_if_allowed
+    subst (λ (t : Tried). edit_cause (drafted t.page.store c.args.draft.now) (replica_of t.page) ≢ None → c.ready.new.steps ≡ c.args.steps.now) c.self.view_is c.ready.ensures.steps_if_allowed
 
 pub returns-in-Ok-clause-numbers : goal.returns-in-Ok-clause-numbers
 returns-in-Ok-clause-numbers g c =
     let t = c.self.inside in
-    subst (λ (s : Tried). NumbersStay (drafted s.page.store c.args.draft.now) s.page.items s.page.nodes (nodes_of_tree c.ready_on_trial.new.tree)) c.self.view_is
-    (numbers_drafted t.store c.args.draft.now t.list.items c.self.invariant.0.cites t.tree c.ready_on_trial.new.tree c.ready_on_trial.ensures.root c.in-Ok.ensures.numbers)
+    subst (λ (s : Tried). NumbersStay (drafted s.page.store c.args.draft.now) s.page.items s.page.nodes (nodes_of_tree c.ready.new.tree)) c.self.view_is
+    (numbers_drafted t.store c.args.draft.now t.list.items c.self.invariant.0.cites t.tree c.ready.new.tree c.ready.ensures.root c.in-Ok.ensures.numbers)
 
 pub returns-in-Ok-clause-tree : goal.returns-in-Ok-clause-tree
 returns-in-Ok-clause-tree g c =
     let t = c.self.inside in
-    committed_tree (drafted t.store c.args.draft.now) t.store c.ready_on_trial.new.store c.ready_on_trial.new.list c.ready_on_trial.new.tree c.in-Ok.performing.change
+    committed_tree (drafted t.store c.args.draft.now) t.store c.ready.new.store c.ready.new.list c.ready.new.tree c.in-Ok.performing.change
     c.commit.new.list.items c.in-Ok.ensures.ok.change c.commit.ensures.items
 
 pub returns-in-Ok-clause-entry : goal.returns-in-Ok-clause-entry
 returns-in-Ok-clause-entry g c =
-    entry_is c.args.draft.now c.self.inside.store c.ready_on_trial.new.store c.self.inside.list.items c.self.inside.selection c.ready_on_trial.new.list c.ready_on_trial.new.tree c.in-Ok.performing c.in-Ok.ensures.ok
-    c.ready_on_trial.ensures.items
+    entry_is c.args.draft.now c.self.inside.store c.ready.new.store c.self.inside.list.items c.self.inside.selection c.ready.new.list c.ready.new.tree c.in-Ok.performing c.in-Ok.ensures.ok
+    c.ready.ensures.items
     ∙ ap (λ (t : Tried). entry_of (drafted t.page.store c.args.draft.now ∷ []) (replica_of t.page)) c.self.view_is

@@ -8,7 +8,7 @@ use Rattle.ve_editor.specs.Stays.{NumbersStay}
 use Rattle.ve_editor.proofs.StayLemmas.{committed_tree, unchanged_cut}
 use Rattle.ve_editor.proofs.PerformLemmas.{other_is}
 use Rattle.model_change.specs.Cost.{cost_of_transaction}
-use Rattle.ve_editor.proofs.editor.Editor.perform_other.Goals as goal
+use Rattle.ve_editor.proofs.in_place.EditorInPlace.perform_other.Goals as goal
 
 pub returns-in-Ok-clause-page : goal.returns-in-Ok-clause-page
 returns-in-Ok-clause-page g c =
