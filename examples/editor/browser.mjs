@@ -7,7 +7,8 @@ import { tmpdir } from "node:os";
 import { extname, join } from "node:path";
 import { fileURLToPath } from "node:url";
 
-const PATIENCE = 120_000; // milliseconds; a loaded machine is slow, and one that fails is worth waiting for
+const PATIENCE = 60_000; // milliseconds; a loaded machine is slow, and one that fails is worth waiting for
+const SOON = 3000; // milliseconds, in which the page has seen what it was sent, unless that was lost
 
 // Waits until a condition gives something that holds. Tells what it waited for where it never does.
 export async function until(what, condition) {
@@ -18,6 +19,28 @@ export async function until(what, condition) {
     if (Date.now() > end) throw new Error(`waited in vain until ${what}`);
     await new Promise((next) => setTimeout(next, 10));
   }
+}
+
+/** Whether a condition holds soon. Where it doesn't, what should have led to it can be done again. */
+export async function holdsSoon(condition) {
+  for (const end = Date.now() + SOON; ;) {
+    if (await condition()) return true;
+    if (Date.now() > end) return false;
+    await new Promise((next) => setTimeout(next, 10));
+  }
+}
+
+/**
+ * Does something, and where it fails once more, from its beginning. A browser that is driven from outside stalls or loses an event on a
+ * loaded machine, so its drivers try again, as Playwright does by its retries. It is told openly, and what fails twice has failed.
+ */
+export async function onceMore(what, act) {
+  try {
+    return await act(0);
+  } catch (error) {
+    console.log(`once more: ${what}: ${error.message}`);
+  }
+  return act(1);
 }
 
 // What a promise gives, unless it takes too long.
@@ -62,6 +85,19 @@ export async function serveFiles(folder) {
 }
 
 const ALT = 1, CTRL = 2, SHIFT = 8;
+// How often the page has seen events, before it does anything about them, and where the mouse was in the last one.
+const SEEN = `(globalThis.seen ??= (() => {
+  const seen = { x: 0, y: 0 };
+  for (const name of ["mousedown", "mouseup", "mousemove", "dragstart", "dragover", "drop", "dragend", "copy", "cut", "paste",
+    "compositionstart", "compositionupdate", "compositionend"]) {
+    seen[name] = 0;
+    addEventListener(name, ({ clientX, clientY }) => {
+      seen[name]++;
+      if (clientX !== undefined) Object.assign(seen, { x: clientX, y: clientY });
+    }, true);
+  }
+  return seen;
+})())`;
 const KEYS = { Enter: 13, Backspace: 8, Tab: 9, Escape: 27, End: 35, Home: 36, ArrowLeft: 37, ArrowUp: 38, ArrowRight: 39, ArrowDown: 40,
   Delete: 46 };
 
@@ -173,8 +209,14 @@ class Window {
   }
 
   // A window that goes to another page may answer nothing meanwhile.
-  ready() {
-    return until("the editor is ready", () => this.value("document.documentElement?.dataset.ready").catch(() => false));
+  async ready() {
+    await until("the editor is ready", () => this.value("document.documentElement?.dataset.ready").catch(() => false));
+    await this.drawn();
+  }
+
+  /** The page is on the screen: what it is sent before may be lost. */
+  drawn() {
+    return until("the page is drawn", () => this.value("performance.getEntriesByName('first-contentful-paint').length > 0"));
   }
 
   async go(url) {
@@ -217,55 +259,55 @@ class Window {
   async compose(texts, over = 0) {
     const caret = await this.value("getSelection().focusOffset");
     const place = over ? { replacementStart: caret - over, replacementEnd: caret } : {};
+    const before = await this.seen();
     for (const text of texts) {
       await this.call("Input.imeSetComposition", { text, selectionStart: text.length, selectionEnd: text.length, ...place });
     }
+    await until("an input method writes", async () => (await this.seen()).compositionstart > before.compositionstart);
     await this.call("Input.insertText", { text: texts.at(-1) });
+    await until("an input method is done", async () => (await this.seen()).compositionend > before.compositionend);
   }
 
-  #mouse(type, [x, y], clickCount = 1) {
+  /** An event of the mouse, with the left button pressed. */
+  mouse(type, at, clickCount = 1) {
+    const [x, y] = (this.at = at);
     return this.call("Input.dispatchMouseEvent", { type, x, y, button: "left", buttons: 1, clickCount });
   }
 
+  /** How often the page has seen each event. */
+  seen() {
+    return this.value(SEEN);
+  }
+
+  /** Acts until the page has seen so many more events of this name: a page that isn't on the screen yet loses what it is sent. */
+  async untilSeen(name, act, times = 1) {
+    await until(`the page sees ${name}`, async () => {
+      const before = (await this.seen())[name];
+      await act();
+      return holdsSoon(async () => (await this.seen())[name] >= before + times);
+    });
+  }
+
   // So many clicks at one place.
-  async click(at, times = 1) {
-    for (let count = 1; count <= times; count++) {
-      await Promise.all([this.#mouse("mousePressed", at, count), this.#mouse("mouseReleased", at, count)]);
-    }
+  click(at, times = 1) {
+    return this.untilSeen("mouseup", async () => {
+      for (let count = 1; count <= times; count++) {
+        await Promise.all([this.mouse("mousePressed", at, count), this.mouse("mouseReleased", at, count)]);
+      }
+    }, times);
   }
 
   move(to) {
     return this.call("Input.dispatchMouseEvent", { type: "mouseMoved", x: to[0], y: to[1], button: "none", buttons: 0 });
   }
 
-  // From one place to another with the button held down.
-  async drag(from, to) {
-    await this.#mouse("mousePressed", from);
-    await this.#mouse("mouseMoved", to);
-    await this.#mouse("mouseReleased", to);
-  }
-
-  // What can be dragged, from one place to another, and let go there. `midway` is what happens meanwhile. The browser takes such events in
-  // its own time, so each is waited for: that the drag has begun, that it has come to its end, and that the page was told how it ended.
-  async carry(from, to, midway = () => {}) {
-    await this.value(`globalThis.carried = { begun: false, over: [-9, -9], ended: false };
-      addEventListener("dragstart", () => (carried.begun = true), { capture: true, once: true });
-      addEventListener("dragover", ({ clientX, clientY }) => (carried.over = [clientX, clientY]), true);
-      for (const end of ["drop", "dragend"]) addEventListener(end, () => (carried.ended = true), { capture: true, once: true }); 0`);
-    await this.#mouse("mousePressed", from);
-    let step = 0;
-    const moveUntil = (what, at, condition) => until(what, async () => {
-      await this.#mouse("mouseMoved", at(++step % 2));
-      return this.value(condition);
+  // From one place to another with the button held down, where a selection grows.
+  sweep(from, to) {
+    return this.untilSeen("mousedown", async () => {
+      await this.mouse("mousePressed", from);
+      await this.mouse("mouseMoved", to);
+      await this.mouse("mouseReleased", to);
     });
-    const away = (odd) => [0, 1].map((k) => from[k] + Math.sign(to[k] - from[k]) * Math.min(Math.abs(to[k] - from[k]), 8 + 4 * odd));
-    await moveUntil("the drag begins", away, "carried.begun");
-    await midway();
-    await this.value("carried.over = [-9, -9]");
-    await moveUntil("the drag is at its end", (odd) => [to[0] - odd, to[1]],
-      `${JSON.stringify(to)}.every((at, k) => Math.abs(at - carried.over[k]) < 2)`);
-    await this.#mouse("mouseReleased", to);
-    await until("what was dragged is let go", () => this.value("carried.ended"));
   }
 
   // Cuts the network off, or joins it again.

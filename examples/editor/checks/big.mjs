@@ -6,7 +6,7 @@ import { clickAfter, html, keys, selectAll } from "../person.mjs";
 const WORDS = "A page of this many words is read, shown and typed in, here and there, as one of its <b>kind</b> would be. ";
 export const page = `<p>Here</p>\n${`<p>${WORDS.repeat(5)}</p>\n`.repeat(1800)}<p>There</p>`;
 
-const MOST = 12_000; // milliseconds; a busy machine takes some ten times of what an idle one does
+const MOST = 12_000; // milliseconds of the processor's, some ten times of what is taken
 
 async function workOf(person) {
   const { metrics } = await person.call("Performance.getMetrics");
@@ -15,7 +15,7 @@ async function workOf(person) {
 
 export async function check(browser, url) {
   const ada = await browser.open("about:blank");
-  await ada.call("Performance.enable");
+  await ada.call("Performance.enable", { timeDomain: "threadTicks" }); // what others of the machine take doesn't count
   const blank = await workOf(ada);
   await ada.go(url);
   const opens = (await workOf(ada)) - blank;
@@ -27,7 +27,7 @@ export async function check(browser, url) {
     globalThis.shown = document.querySelector("#page p").textContent;
   }, { once: true })`);
   await ada.type("x");
-  assert.equal(await ada.value("shown"), "Herex");
+  assert.equal(await until("a key is seen", () => ada.value("globalThis.shown")), "Herex");
   await keys(ada, "Backspace");
   // to the end, where the last ones are drawn; typing there, and back
   await keys(ada, "ctrl+End");
@@ -36,9 +36,9 @@ export async function check(browser, url) {
   await keys(ada, "ctrl+Home");
   await clickAfter(ada, "Here");
   await selectAll(ada);
-  const begin = performance.now();
+  const before = await workOf(ada);
   await keys(ada, "Backspace");
-  const erases = performance.now() - begin;
+  const erases = (await workOf(ada)) - before;
   assert.equal(await html(ada), "<p></p>");
   await keys(ada, "ctrl+z");
   await until("all is there again", async () => (await html(ada)).startsWith(page.slice(0, 1000)));

@@ -1,8 +1,8 @@
 // Two windows on one page, one after the other and at once.
 import assert from "node:assert/strict";
 import { until } from "../browser.mjs";
-import { choose, clickAfter, clickOn, dragOver, filesKept, html, keys, meet, notice, paste, press, shared, state,
-  unsent, untold } from "../person.mjs";
+import { choose, clickAfter, clickOn, dragOver, filesKept, html, keys, meet, paste, press, shared, state, told, unsent,
+  untold } from "../person.mjs";
 import { run } from "./steps.mjs";
 
 const holds = (person, text) => until(`the page holds ${text}`, async () => (await html(person)).includes(text));
@@ -56,10 +56,15 @@ export const steps = [
   ["a block that is dragged as another parts it", async (ada, ben) => {
     await clickAfter(ben, "On");
     await run(ada, [["block", "One", "two?ž", () => ben.key("Enter").then(() => holds(ada, "<p>On</p>"))]]);
-    await until("it is told that the block stays", async () => /^Somebody changed this block/.test(await notice(ada)));
+    await told(ada, /^Somebody changed this block/);
     await clickAfter(ada, "two?ž");
     await ada.type("!");
   }, ["<p>One</p><p>two?ž</p>", "<p>On</p><p>e</p><p>two?ž!</p>"]],
+  ["a block that another changes after its handle came", async (ada, ben) => {
+    await clickAfter(ben, "On");
+    const changes = () => choose(ben, "Kind of paragraph", "h2").then(() => holds(ada, "<h2>On</h2>"));
+    await run(ada, [["block", "On", "two?ž", undefined, changes]]);
+  }, ["<p>On</p><p>e</p><p>two?ž!</p>", "<p>e</p><p>two?ž!</p><h2>On</h2>"]],
   ["an input method, while an undo waits and another types", async (ada, ben) => {
     await unsent(ada, async () => {
       await run(ada, [["click", "an item"], ["type", "x"], ["keys", "ctrl+z"], ["click", "one list"], ["compose", ["に", "日本"]]]);
@@ -90,7 +95,8 @@ export async function race(ada, ben) {
 /** What the other selected is seen, text and boxes. */
 export async function selections(ada, ben) {
   await dragOver(ben, "both windows at once");
-  await until("the selection is tinted", () => ada.value("[...CSS.highlights.get('site-1')].map(String).join() === 'both windows at once'"));
+  const tinted = "[...(CSS.highlights.get('site-1') ?? [])].map(String).join()";
+  await until("the selection is tinted", async () => (await ada.value(tinted)) === "both windows at once");
   await clickOn(ben, "#page .leaf");
   await until("the box is covered", () => ada.value("document.querySelectorAll('#carets .held').length === 1"));
 }
@@ -105,7 +111,7 @@ export async function dropped(ada, ben) {
   await ben.type("!");
   await shared(ben);
   await ada.offline(false);
-  await until("the drop is told", async () => /^Ben changed .* dropped: a mark$/.test(await notice(ada)));
+  await told(ada, /^Ben changed .* dropped: a mark$/);
   await meet(ada, ben);
 }
 

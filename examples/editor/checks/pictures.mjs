@@ -19,6 +19,7 @@ export async function gallery() {
 const settled = (person) => person.value("[...document.querySelectorAll('#page img')].every((image) => image.complete)");
 
 export async function check(person, { asked }, allowed) {
+  if (allowed) await until("the picture is asked for", () => asked() > 0);
   await until("the picture is loaded or refused", () => settled(person));
   assert.equal(asked() > 0, allowed);
 }

@@ -135,6 +135,8 @@ const pasting = [
     "<p>one  three</p><p>lasttwo</p>"],
   ["text that is dragged elsewhere", "<p>one <b>two</b> three</p><p>last</p>", [["drag", "two", "last"]],
     "<p>one  three</p><p>last<b>two</b></p>"],
+  ["what another program drags, after text that was dragged here", "<p>one two three</p><p>last</p>",
+    [["drag", "two", "last"], ["drop", "<b>new</b>", "three"]], "<p>one  three<b>new</b></p><p>lasttwo</p>"],
 ];
 
 export const cases = casesOf({ typing, selecting, composing, tables, fields, pasting });

@@ -1,8 +1,9 @@
 // What a person does, as tables say it: a word and what it needs.
 import assert from "node:assert/strict";
 import { until } from "../browser.mjs";
-import { choose, clickAfter, clickOn, copied, cut, dragOver, keys, middleOf, paste, pasteBack, placeOf, press,
-  tripleClick } from "../person.mjs";
+import { drag, dropFromOutside } from "../dragging.mjs";
+import { choose, clickAfter, clickOn, copied, cut, dragOver, gripOf, keys, lineIsBehind, paste, pasteBack, placeOf, press,
+  tripleClick, typeAtOnce } from "../person.mjs";
 
 const WORDS = {
   click: clickAfter, // behind a text
@@ -15,7 +16,7 @@ const WORDS = {
   paste,
   cut,
   back: pasteBack,
-  type: (person, text) => person.type(text),
+  type: typeAtOnce,
   compose: (person, texts, over) => person.compose(texts, over),
   copy: async (person, html) => assert.equal(await copied(person), html),
 
@@ -27,21 +28,38 @@ const WORDS = {
       await person.type(text);
     }
     await keys(person, "Enter");
+    await until("the field is gone", () => person.value("document.activeElement.id === 'page'"));
   },
 
   // A selected text to behind another one. `midway` is what happens meanwhile.
   async drag(person, text, to, midway) {
-    await dragOver(person, text);
-    const [[x, y], [end]] = await placeOf(person, text);
-    await person.carry([(x + end) / 2, y], (await placeOf(person, to))[1], midway);
+    const target = async () => (await placeOf(person, to))[1];
+    const places = async () => {
+      await dragOver(person, text);
+      const end = await target();
+      const [[left, y], [right]] = await placeOf(person, text);
+      return [[(left + right) / 2, y], end];
+    };
+    await drag(person, { places, target, midway });
   },
 
-  // The block of a text to below that of another one, by its handle.
-  async block(person, text, to, midway) {
-    const [[x, y]] = await placeOf(person, text);
-    await person.move([x + 2, y]);
-    const [, [toX, toY]] = await placeOf(person, to);
-    await person.carry(await middleOf(person, "#grip"), [toX, toY + 6], midway);
+  // What another program drags, to behind a text.
+  async drop(person, html, to) {
+    await dropFromOutside(person, html, (await placeOf(person, to))[1]);
+  },
+
+  // The block of a text to below that of another one, by its handle. `before` is what happens between the handle's coming and the press.
+  async block(person, text, to, midway, before) {
+    const target = async () => {
+      const [, [x, y]] = await placeOf(person, to);
+      return [x, y + 6];
+    };
+    const places = async () => {
+      const end = await target(), grip = await gripOf(person, text);
+      await before?.();
+      return [grip, end];
+    };
+    await drag(person, { places, target, midway, isOver: (at) => lineIsBehind(person, at), isHandle: true });
   },
 };
 

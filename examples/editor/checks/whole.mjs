@@ -38,6 +38,8 @@ const moving = [
     "<p id='y'>two</p><h2 class='x'>one</h2><p>three</p>"],
   ["an item by its handle", "<ul class='x'><li id='a'>one</li><li>two</li></ul>", [["block", "one", "two"]],
     `<ul class="x"><li>two</li><li id='a'>one</li></ul>`],
+  ["a block by its handle, and undo by a key", "<p>one</p><p id='y'>two</p><p>three</p>",
+    [["block", "one", "two"], ["keys", "ctrl+z"]], "<p>one</p><p id='y'>two</p><p>three</p>"],
   ["a block by a key", "<h2 class='x'>one</h2><p id='y'>two</p>", [["click", "two"], ["keys", "alt+ArrowUp"], ["type", "!"]],
     `<p id="y">two!</p><h2 class='x'>one</h2>`],
 ];
@@ -73,7 +75,7 @@ const changes = [
 ];
 
 /** Ten mixed changes of one window are undone and made again, while another types: both pages come back byte for byte. */
-export async function tenChanges(ada, ben) {
+async function tenChanges(ada, ben) {
   await run(ben, [["click", "Ben types:"]]);
   const shared = async () => (await meet(ada, ben)).replace(/Ben types:x*/, "Ben types:");
   const together = async (steps) => {
@@ -81,16 +83,14 @@ export async function tenChanges(ada, ben) {
     return shared();
   };
   const states = [await shared()];
-  for (const steps of changes) {
-    states.push(await together(steps));
-    assert.notEqual(states.at(-1), states.at(-2), `this changes the page: ${JSON.stringify(steps)}`);
-  }
+  for (const steps of changes) states.push(await together(steps));
+  assert.equal(new Set(states).size, changes.length + 1, "each change changes the page");
   for (const state of states.slice(0, -1).reverse()) assert.equal(await together([["keys", "ctrl+z"]]), state);
   for (const state of states.slice(1)) assert.equal(await together([["keys", "ctrl+y"]]), state);
 }
 
 /** A change is taken back under another's that was itself taken back. */
-export async function under(ada, ben) {
+async function under(ada, ben) {
   const before = await meet(ada, ben);
   for (const [person, steps] of [
     [ada, [["over", "look"], ["keys", "ctrl+b"]]],
@@ -103,3 +103,5 @@ export async function under(ada, ben) {
   }
   assert.equal(await meet(ada, ben), before);
 }
+
+export const company = [["ten changes undone and made again", tenChanges], ["under what was taken back", under]];

@@ -93,7 +93,7 @@ export function listenToClipboard(host, editor) {
     paste(event.clipboardData);
   });
 
-  let isOurs = false; // whether what is dragged is the selection here
+  let isOurs = false; // whether what is dragged is the selection here; where that goes by the drop there is no `dragend` of it
   host.addEventListener("dragstart", (event) => {
     isOurs = true;
     copy(event.dataTransfer);
@@ -103,9 +103,10 @@ export function listenToClipboard(host, editor) {
   host.addEventListener("dragover", (event) => event.preventDefault());
   host.addEventListener("drop", (event) => {
     event.preventDefault();
-    const at = editor.places.offsetAt(event.clientX, event.clientY);
+    const at = editor.places.offsetAt(event.clientX, event.clientY), isMoved = isOurs && !event.ctrlKey;
+    isOurs = false;
     if (at === null) return;
-    if (isOurs && !event.ctrlKey) return editor.act(dropped, at, ...editor.selection);
+    if (isMoved) return editor.act(dropped, at, ...editor.selection);
     editor.place([at, at]);
     paste(event.dataTransfer);
   });

@@ -10,6 +10,7 @@ import { isIn } from "./tree.js";
 export function listenToGrip(main, host, editor) {
   const [grip, line] = ["#grip", "#line"].map((selector) => main.querySelector(selector));
   let block = null; // beside which the handle is
+  let isDragged = false; // the handle is, and not a text while the handle is shown
   let target = null; // where it would come: `{ node, isBehind }`
 
   const boxOf = (node) => editor.view.domOf(node).getBoundingClientRect();
@@ -28,24 +29,32 @@ export function listenToGrip(main, host, editor) {
   };
 
   main.addEventListener("mousemove", (event) => {
-    if (event.buttons || event.target === grip) return;
+    if (event.buttons || isDragged || event.target === grip) return;
     block = blockUnder(event);
     grip.hidden = !block;
     if (block) put(grip, boxOf(block).left - 30, boxOf(block).top);
   });
 
   grip.addEventListener("dragstart", (event) => {
+    if (!isIn(editor.root, block)) block = blockUnder(event); // somebody changed it since the handle came
+    if (!block) return event.preventDefault();
+    isDragged = true;
     event.dataTransfer.setData("text/plain", "");
     event.dataTransfer.effectAllowed = "move";
     event.dataTransfer.setDragImage(editor.view.domOf(block), 0, 0);
+    return undefined;
   });
+  // The press on the handle took the focus from the page, where keys shall go again.
   grip.addEventListener("dragend", () => {
     grip.hidden = line.hidden = true;
+    isDragged = false;
     target = block = null;
+    host.focus();
+    editor.places.select(...editor.selection);
   });
 
   main.addEventListener("dragover", (event) => {
-    if (!block || grip.hidden) return;
+    if (!isDragged) return;
     const node = blockUnder(event);
     if (!node || !fitsBeside(block, node)) return;
     event.preventDefault();
@@ -56,9 +65,10 @@ export function listenToGrip(main, host, editor) {
   });
 
   main.addEventListener("drop", (event) => {
-    if (!target) return;
+    if (!isDragged) return;
     event.preventDefault();
     event.stopPropagation();
+    if (!target) return;
     const [moved, { node, isBehind }] = [block, target];
     editor.act(({ root, selection }) => {
       if (!isIn(root, moved) || !isIn(root, node)) return "Somebody changed this block meanwhile, so it stays where it is";

@@ -10,6 +10,7 @@ import { tmpdir } from "node:os";
 import { join } from "node:path";
 import { fileURLToPath } from "node:url";
 import { World, compile } from "../../../clients/web/world.js";
+import { onceMore } from "../../editor/browser.mjs";
 import { branches, erased, parted, typed } from "./edits.js";
 import { Writer, single } from "./writer.js";
 
@@ -51,6 +52,7 @@ class Service {
   }
 
   async stop(signal) {
+    if (this.#process.exitCode !== null || this.#process.signalCode !== null) return; // it has ended
     this.#process.kill(signal);
     await once(this.#process, "exit");
   }
@@ -135,14 +137,16 @@ async function undone(service, makeWorld) {
   return [one, two];
 }
 
-const service = new Service();
-await service.begin();
 const compiled = await compile(await readFile(module));
 const makeWorld = () => new World(compiled);
-try {
-  const people = [...(await undone(service, makeWorld)), ...(await together(service, makeWorld))];
-  for (const { writer } of people) writer.close();
-  console.log(`window: ok: ${WRITERS} writers with replicas, a kill, undo and redo`);
-} finally {
-  await service.end();
-}
+await onceMore("writers", async () => {
+  const service = new Service();
+  await service.begin();
+  try {
+    const people = [...(await undone(service, makeWorld)), ...(await together(service, makeWorld))];
+    for (const { writer } of people) writer.close();
+  } finally {
+    await service.end();
+  }
+});
+console.log(`window: ok: ${WRITERS} writers with replicas, a kill, undo and redo`);

@@ -1,34 +1,30 @@
 // node --experimental-websocket windows.mjs CHROMIUM ADDRESS: two windows on one page of the service at this address, with real keys.
-import { Browser, until } from "../../editor/browser.mjs";
+import { Browser, onceMore, until } from "../../editor/browser.mjs";
 import { untold } from "../../editor/person.mjs";
 
 const [chromium, address] = process.argv.slice(2);
-
-function sure(holds, what) {
-  if (!holds) throw new Error(what);
-}
 
 const put = (window, at) => window.value(`getSelection().setPosition(document.querySelector("#page > div").firstChild.firstChild, ${at})`);
 const lines = (window) => window.value('[...document.querySelectorAll("#page > div")].map((line) => line.textContent).join("\\n")');
 
 const shown = (window, text) => until(`a window shows ${text}`, async () => (await lines(window)) === text);
 
-// What both windows and the service show.
-async function shows(windows, text, page) {
-  for (const window of windows) await shown(window, text);
-  const served = () => fetch(`http://${address}/pages/windows`).then((answer) => answer.text());
-  await until(`the service shows ${page}`, async () => (await served()) === page);
-}
-
-async function opened(browser, name) {
-  const window = await browser.open(`http://${address}/window/?page=windows&name=${name}`);
+async function opened(browser, page, name) {
+  const window = await browser.open(`http://${address}/window/?page=${page}&name=${name}`);
   await until("the page is there", () => window.value('document.querySelectorAll("#page > div").length > 0'));
+  await window.drawn();
   await window.value('document.querySelector("#page").focus()');
   return window;
 }
 
-async function edited(browser) {
-  const [ada, ben] = [await opened(browser, "Ada"), await opened(browser, "Ben")];
+async function edited(browser, page) {
+  const [ada, ben] = [await opened(browser, page, "Ada"), await opened(browser, page, "Ben")];
+  // what both windows and the service show
+  const shows = async (windows, text, wanted) => {
+    for (const window of windows) await shown(window, text);
+    const served = () => fetch(`http://${address}/pages/${page}`).then((answer) => answer.text());
+    await until(`the service shows ${wanted}`, async () => (await served()) === wanted);
+  };
   await put(ada, 3);
   await ada.type("d!");
   await ada.key("Enter");
@@ -55,13 +51,17 @@ async function edited(browser) {
     await ada.type("Z");
   });
   await shows([ada, ben], "XYbcdZ!\nef", "<p>XYbcdZ!</p><p>ef</p>");
-  sure((await ada.value('document.querySelector("#status").textContent')) === "", "a window complains");
+  await until("a window complains no more", () => ada.value('document.querySelector("#status").textContent === ""'));
+  await Promise.all([ada.close(), ben.close()]);
 }
 
-await fetch(`http://${address}/pages/windows`, { method: "PUT", body: "<p>abc</p>" });
 const browser = await Browser.start(chromium);
 try {
-  await edited(browser);
+  await onceMore("windows", async (tries) => {
+    const page = `windows-${tries}`;
+    await fetch(`http://${address}/pages/${page}`, { method: "PUT", body: "<p>abc</p>" });
+    await edited(browser, page);
+  });
   console.log("window: ok: two windows of Chromium");
 } finally {
   await browser.close();
