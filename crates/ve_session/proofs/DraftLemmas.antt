@@ -17,7 +17,7 @@ use Rattle.model_world.specs.declared.refusal.Refusal.{Refusal}
 use Rattle.model_world.specs.Answers.{Asked, request_outcome, erased_or_no, higher, lower, performed_or_no, to_erase}
 use Rattle.model_world.specs.Edits.{checked_transaction, change_of}
 use Rattle.model_world.specs.Refusals.{refused_as}
-use Rattle.model_world.specs.Cost.{cost_of_made, erasing}
+use Rattle.model_world.specs.Cost.{erasing}
 use Rattle.model_world_law.specs.Fit.{Fit, MovesFit}
 use Rattle.ve_changes.specs.declared.faults.ChangeStop.{ChangeStop}
 use Rattle.ve_changes.specs.Carets.{range_to_erase}
@@ -26,7 +26,7 @@ use Rattle.ve_changes.specs.Moves.{is_move, moved_by}
 use Rattle.ve_changes.specs.Stops.{IsRefused}
 use Rattle.ve_tx.specs.declared.draft.Draft.{Draft}
 use Rattle.ve_session.specs.Asked.{asker, cost_completed, outcome_completed, IsStopped}
-use Rattle.ve_session.proofs.CostLemmas.{cost_in_place}
+use Rattle.ve_session.proofs.CostLemmas.{cost_in_place, cost_of_made}
 use Rattle.ve_session.proofs.TurnLemmas.{unmeant}
 use Rattle.ve_sites.specs.Shared.{Shared, member_at, site_at}
 

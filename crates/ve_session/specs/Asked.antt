@@ -1,5 +1,5 @@
 -- Requests to a world or to one of its sites, and their outcome.
-use Rattle.std.specs.Prelude.{◌≡◌, ◌≢◌, ◌<◌, ℕ, nat_le, nat_lt, Bool, true, false, if◌then◌else◌, List, [], length, map, Option, Some, None, Ok, Err, IsOk}
+use Rattle.std.specs.Prelude.{◌≡◌, ◌≢◌, ◌<◌, ◌+◌, ℕ, nat_le, nat_lt, Bool, true, false, if◌then◌else◌, List, [], length, map, Option, Some, None, Ok, Err, IsOk}
 use Rattle.ve_base.specs.Limits.{max_line}
 use Rattle.model_page.specs.PageItems.{Opened}
 use Rattle.model_items.specs.declared.plain_item.PlainItem.{PlainItem}
@@ -11,11 +11,12 @@ use Rattle.model_world.specs.declared.command.Command.{Command}
 use Rattle.model_world.specs.declared.refusal.Refusal.{Refusal}
 use Rattle.model_world.specs.declared.refusal.Refusal.TheVariants.{BadSite, LineTooLong, NotOpen}
 use Rattle.model_world.specs.declared.reply.Reply.{Reply}
+use Rattle.model_change.specs.Cost.{cost_of_transactions}
 use Rattle.model_change.specs.Transaction.{Transaction}
 use Rattle.model_world.specs.declared.reply.Reply.TheVariants.{No}
 use Rattle.model_world.specs.Answers.{Asked, Outcome, batch_or_no, performed_or_no, replica_of, request_outcome}
 use Rattle.model_world.specs.Completed.{completed}
-use Rattle.model_world.specs.Cost.{cost_of_made, is_on_copy, made_by, made_in_turn, made_of}
+use Rattle.model_world.specs.Cost.{cost_besides, made_by, made_in_turn, made_of}
 use Rattle.model_world.specs.Edits.{batch_on, change_on, checked_transaction}
 use Rattle.model_world.specs.Commands.{command}
 use Rattle.model_world.specs.World.{World, Closed, Open, answer_of, reply_and_next}
