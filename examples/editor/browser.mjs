@@ -84,7 +84,6 @@ export async function serveFiles(folder) {
   return { port, url: `http://127.0.0.1:${port}/`, close: () => closed(server) };
 }
 
-const ALT = 1, CTRL = 2, SHIFT = 8;
 // How often the page has seen events, before it does anything about them, and where the mouse was in the last one.
 const SEEN = `(globalThis.seen ??= (() => {
   const seen = { x: 0, y: 0 };
@@ -98,6 +97,7 @@ const SEEN = `(globalThis.seen ??= (() => {
   }
   return seen;
 })())`;
+const ALT = 1, CTRL = 2, SHIFT = 8;
 const KEYS = { Enter: 13, Backspace: 8, Tab: 9, Escape: 27, End: 35, Home: 36, ArrowLeft: 37, ArrowUp: 38, ArrowRight: 39, ArrowDown: 40,
   Delete: 46 };
 
@@ -216,7 +216,8 @@ class Window {
 
   /** The page is on the screen: what it is sent before may be lost. */
   drawn() {
-    return until("the page is drawn", () => this.value("performance.getEntriesByName('first-contentful-paint').length > 0"));
+    const isDrawn = "performance.getEntriesByName('first-contentful-paint').length > 0";
+    return until("the page is drawn", () => this.value(isDrawn).catch(() => false));
   }
 
   async go(url) {
