@@ -7,7 +7,7 @@ import { tmpdir } from "node:os";
 import { extname, join } from "node:path";
 import { fileURLToPath } from "node:url";
 
-const PATIENCE = 60_000; // milliseconds; a loaded machine is slow, and one that fails is worth waiting for
+const PATIENCE = 120_000; // milliseconds; a loaded machine is slow, and one that fails is worth waiting for
 const SOON = 3000; // milliseconds, in which the page has seen what it was sent, unless that was lost
 
 // Waits until a condition gives something that holds. Tells what it waited for where it never does.
