@@ -2,19 +2,18 @@
 use Rattle.std.specs.Prelude.{ℕ, ◌+◌, List, [], ◌∷◌}
 use Rattle.model_items.specs.declared.plain_item.PlainItem.{PlainItem}
 use Rattle.model_change.specs.Transaction.{Transaction}
-use Rattle.model_items.specs.Cost.{cost_of_tree}
 use Rattle.model_change.specs.Cost.{cost_of_transactions}
 
 -- those of a page without text, which stands in the place of one that is moved out
 abbrev pub steps_of_blank : ℕ
 steps_of_blank = 8
 
--- those of a copy of the page, which are allowed where there are several transactions
-abbrev pub steps_of_copy : List Transaction → List PlainItem → ℕ
-steps_of_copy [] items = 0
-steps_of_copy (t ∷ []) items = 0
-steps_of_copy (t ∷ u ∷ ts) items = cost_of_tree items
+-- what stands there while several transactions are made on a trial
+abbrev pub steps_besides : List Transaction → ℕ
+steps_besides [] = 0
+steps_besides (t ∷ []) = 0
+steps_besides (t ∷ u ∷ ts) = steps_of_blank
 
--- those, and those of the transactions
+-- that, and the steps of the transactions
 abbrev pub steps_over : List Transaction → List PlainItem → ℕ
-steps_over ts items = steps_of_copy ts items + cost_of_transactions ts items
+steps_over ts items = steps_besides ts + cost_of_transactions ts items

@@ -1,5 +1,5 @@
 -- Several changes of a page that are made all together or not at all.
-use Rattle.std.specs.Prelude.{◌≡◌, ℕ, List, take}
+use Rattle.std.specs.Prelude.{◌≡◌, List}
 use Rattle.ve_base.specs.declared.value.Value.{Value}
 use Rattle.model_items.specs.declared.item.Item.{Item}
 use Rattle.model_change.specs.Transaction.{Transaction}
@@ -10,6 +10,8 @@ use Rattle.model_site_law.specs.Sound.{AllMayRun}
 use Rattle.ve_tx.specs.Spliced.{spliced_by}
 use Rattle.ve_tx.specs.declared.entry.Entry.{Entry}
 use Rattle.ve_tx.specs.declared.splice.Splice.{Splice}
+use Rattle.ve_editor.specs.declared.first_values.FirstValues.{FirstValues}
+use Rattle.ve_editor.specs.Back.{first_values}
 use Rattle.ve_editor.specs.Edited.{entry_by_value, EntryCites}
 use Rattle.ve_editor.specs.Page.{LinkedPage, Nodes, linked_page, page_of, replica_of}
 use Rattle.ve_editor.specs.Stays.{NumbersStayOver}
@@ -19,10 +21,9 @@ pub record Tried : Type 0 where
   pub page : LinkedPage
   pub first : LinkedPage
 
--- what a page was: these splices take its list back, and it had so many of the values, and these
--- nodes
-abbrev pub first_page : List Value → List Item → List Splice → ℕ → Selection → Nodes → LinkedPage
-first_page store items back values selected nodes = linked_page (page_of (take values store) (spliced_by items back) selected) nodes
+-- what a page was: these splices take its list back, and it had these values and nodes
+abbrev pub first_page : List Value → List Item → List Splice → FirstValues → Selection → Nodes → LinkedPage
+first_page store items back values selected nodes = linked_page (page_of (first_values store values) (spliced_by items back) selected) nodes
 
 -- Transactions that are asked for, performed one after the other on a page, give this page and this
 -- entry, and nodes that stay over each of them keep their numbers.

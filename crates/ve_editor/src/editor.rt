@@ -131,7 +131,7 @@ impl Editor {
 
     /// An editor of a page without text: what stands in an editor's place while that one is moved
     /// out.
-    pub(crate) fn blank<L: Ledger>(alloc: Global, steps: &mut Steps<L>) -> Result<Editor, Memory>
+    pub fn blank<L: Ledger>(alloc: Global, steps: &mut Steps<L>) -> Result<Editor, Memory>
         ensures counted { steps.old ≤ steps.new }
         ensures steps { steps.new ≤ steps.old + steps_of_blank }
     {

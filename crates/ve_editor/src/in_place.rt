@@ -1,21 +1,18 @@
 // Transactions of a reversal and of others, made in place on the page of an editor or of a trial, one
-// or several of them, and entries on an editor. An `Err` in several may leave a part done: so they
-// are made on a trial, or on an editor that is let go then, as a copy is.
+// or several of them. An `Err` in several may leave a part done: so they are made on a trial.
 ghost use Rattle.std.specs.Prelude.{◌≡◌, ◌≤◌, ◌+◌, [], ◌∷◌, All, None, Option, map, IfOk, OnOk, OnErr};
 ghost use Rattle.model_items.specs.Law.{Lawful};
 ghost use Rattle.model_change.specs.Fault.{Applies};
 ghost use Rattle.model_change.specs.Inverse.{filled};
 ghost use Rattle.model_change.specs.Transaction.{edited};
-ghost use Rattle.model_site.specs.Entries.{entry_against, reverted};
 ghost use Rattle.model_site.specs.Replica.{all_filled, all_performed, all_put_back, performed, put_back};
 ghost use Rattle.ve_tree.specs.IsTree.{IsTree};
-ghost use Rattle.ve_tx.specs.ByValue.{parcel_by_value, ParcelCites};
 ghost use Rattle.ve_tx.specs.Cites.{TxCites};
 ghost use Rattle.ve_tx.specs.Operation.{by_value};
 ghost use Rattle.model_change.specs.Cost.{cost_of_transaction, cost_of_transactions};
 ghost use Rattle.ve_editor.specs.Page.{LinkedPage, replica_of};
 ghost use Rattle.ve_editor.specs.Stays.{IsUnchanged, NumbersStay, NumbersStayOver};
-ghost use Rattle.ve_editor.specs.Edited.{entry_by_value, EntryCites, AllStand, CanBeReverted, CutsUncited, reversal_over};
+ghost use Rattle.ve_editor.specs.Edited.{AllStand, reversal_over};
 
 use crate::Editor;
 use crate::noted::NoNotes;
@@ -26,7 +23,7 @@ use std::alloc::Global;
 use std::sync::ledger::Ledger;
 use ve_base::{Memory, Steps, Value};
 use ve_offsets::Doc;
-use ve_tx::{Entry, Parcel, Transaction, TxList};
+use ve_tx::{Transaction, TxList};
 
 /// A page on which transactions are made in place: an editor's, or a trial's.
 pub trait InPlace {
@@ -232,74 +229,4 @@ pub fn perform_others<P: InPlace, L: Ledger>(
         kept.append(own)?;
     }
     Ok(kept)
-}
-
-impl Editor {
-    /// Performs another's parcel as `admit` does, and always in place: an `Err` may leave some of
-    /// its transactions performed. Whoever changes a copy makes it once, and not at each entry.
-    pub fn admit_in_place<L: Ledger>(
-        &mut self,
-        parcel: &Parcel,
-        steps: &mut Steps<L>,
-    ) -> Result<Entry, Memory>
-        requires cites { ParcelCites parcel.now }
-        requires stands { AllStand (parcel_by_value parcel.now) self.old.items }
-        ensures page { OnOk result (
-            replica_of self.new
-            ≡ all_performed (parcel_by_value parcel.now) (replica_of self.old)) }
-        ensures numbers { OnOk result (
-            NumbersStayOver (parcel_by_value parcel.now) self.old.items self.old.nodes
-            self.new.nodes) }
-        ensures entry { IfOk result (λ entry.
-            entry_by_value self.new.store entry
-            ≡ entry_against parcel.now.entry.takes_back (parcel_by_value parcel.now)
-            (replica_of self.old)) }
-        ensures cites { IfOk result (EntryCites self.new.store) }
-        ensures counted { steps.old ≤ steps.new }
-        ensures steps { steps.new
-            ≤ steps.old + cost_of_transactions (parcel_by_value parcel.now) self.old.items }
-    {
-        let store_before = self.store.len();
-        let txs = perform_others(
-            self.alloc,
-            self,
-            parcel.entry.txs.as_slice(),
-            parcel.values.as_slice(),
-            steps,
-        )?;
-        Ok(Entry {
-            txs,
-            store_before,
-            store_after: self.store.len(),
-            takes_back: parcel.entry.takes_back,
-        })
-    }
-
-    /// Takes an entry back as `revert` does, and always in place: an `Err` may leave some of its
-    /// transactions taken back.
-    pub fn revert_in_place<L: Ledger>(
-        &mut self,
-        entry: &Entry,
-        steps: &mut Steps<L>,
-    ) -> Result<(), Memory>
-        requires cites { EntryCites self.old.store entry.now }
-        requires stands { CanBeReverted (entry_by_value self.old.store entry.now) (
-            replica_of self.old) }
-        requires uncited { CutsUncited (entry_by_value self.old.store entry.now) (
-            replica_of self.old) }
-        ensures page { OnOk result (
-            replica_of self.new
-            ≡ reverted (entry_by_value self.old.store entry.now) (replica_of self.old)) }
-        ensures numbers { OnOk result (
-            NumbersStayOver (reversal_over self.old.store entry.now.txs) self.old.items
-            self.old.nodes self.new.nodes) }
-        ensures counted { steps.old ≤ steps.new }
-        ensures steps { steps.new
-            ≤ steps.old + cost_of_transactions (reversal_over self.old.store entry.now.txs) self.old.items }
-    {
-        let was = self.store.len();
-        put_all_back(self.alloc, self, entry.txs.as_slice(), steps)?;
-        self.cut_back(entry, was);
-        Ok(())
-    }
 }

@@ -27,17 +27,18 @@
 //! Changes that are to be made all or none are an `Attempt`: `Editor::attempt` makes them in place,
 //! on a `Trial` of the page, and takes them back where one of them stops. A trial copies nothing and
 //! takes no step of its own. The tree can go back to the nodes that it had. Of the list it is noted
-//! what each change takes out, and the list keeps room for that; the store only grows meanwhile, and
-//! is cut. So going back takes no memory. An attempt takes the steps of its changes, and at most
-//! eight more, which make a page without text. `revert` and `admit` make several transactions on a
-//! trial, too.
+//! what each change takes out, and the list keeps room for that; the store is cut, or, where values
+//! were cut off that were there first, a copy of it comes back. So going back takes no memory. An
+//! attempt takes the steps of its changes, and at most eight more, which make a page without text.
+//! `revert` and `admit` make several transactions on a trial, too. Who makes many entries at once
+//! calls those of a trial.
 //!
 //! Definitions, in reading order: `Page` (the invariant of the type and its view), `Stays` (which
 //! nodes keep their numbers), `Edited` (drafts and entries by value; what may be performed or taken
 //! back), `Counted` (how many steps a call counts at most), `Refusal` (how a refusal names its
 //! cause), `Trials` (the view of a trial, and what an attempt makes). Two serve private functions:
 //! `Prepared` (a change that is allowed, and one whose tree is there and whose list needs no more
-//! memory) and `Back` (the splices that take a list back). There is no law of its own: those of
+//! memory) and `Back` (the splices that take a list back, and the values that were there first). There is no law of its own: those of
 //! model_site_law hold by the clauses.
 //!
 //! A draft's values go into the store before it is known that the draft applies, since its removed
@@ -46,10 +47,8 @@
 //! `revert` asks that its reversals apply and leave lawful lists, and that no value is cut that
 //! stays cited. So its one refusal is want of memory. Values are cut off after the last reversal.
 //!
-//! A copied node is a step. The bound of one transaction doesn't grow with the page, so an editor
-//! that copied the page for each undo wouldn't meet it. That of several would allow one copy, though
-//! none is made. Who makes many entries at once copies the page once, and calls `admit_in_place`
-//! and `revert_in_place` on the copy, whose bounds have no copy.
+//! A copied node is a step. The bounds don't grow with the page, so an editor that copied the page
+//! for an undo wouldn't meet them.
 #![tactic(auto)]
 
 mod attempt;
@@ -57,6 +56,7 @@ mod back;
 mod checked;
 mod editor;
 mod faults;
+mod first_values;
 mod in_place;
 mod noted;
 mod perform;

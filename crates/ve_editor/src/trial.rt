@@ -1,15 +1,17 @@
 // A page on which changes are made for a try.
-ghost use Rattle.std.specs.Prelude.{◌≡◌, ◌≢◌, ◌≤◌, ◌+◌, ◌∷◌, [], None, Some, IfOk, IfErr, OnOk, OnErr};
-ghost use Rattle.model_change.specs.Cost.{cost_of_transaction};
+ghost use Rattle.std.specs.Prelude.{◌≡◌, ◌≢◌, ◌≤◌, ◌+◌, ◌∷◌, [], None, Some, length, IfOk, IfErr, OnOk, OnErr};
+ghost use Rattle.model_change.specs.Cost.{cost_of_transaction, cost_of_transactions};
+ghost use Rattle.model_items.specs.Plain.{AreDistinct};
 ghost use Rattle.model_items.specs.Plain.{plain_list};
-ghost use Rattle.model_site.specs.Entries.{entry_of};
+ghost use Rattle.model_site.specs.Entries.{cut_back, entry_against, entry_of, reverted};
 ghost use Rattle.model_site.specs.Refused.{edit_cause};
-ghost use Rattle.model_site.specs.Replica.{performed};
+ghost use Rattle.model_site.specs.Replica.{all_performed, performed};
 ghost use Rattle.ve_tree.specs.IsTree.{IsTree};
 
 use crate::Editor;
 use crate::back::Back;
-use crate::in_place::InPlace;
+use crate::first_values::FirstValues;
+use crate::in_place::{InPlace, perform_others, put_all_back};
 use crate::perform::{ready, ready_back, ready_other};
 use crate::prepare::commit;
 use crate::selected::moved;
@@ -23,13 +25,13 @@ use ve_items::Linear;
 use ve_offsets::Doc;
 use ve_store::Store;
 use ve_tree::Tree;
-use ve_tx::{Draft, Entry, Transaction, TxList};
+use ve_tx::{Draft, Entry, Parcel, Transaction, TxList};
 
 /// A page on which changes are made in place, and which can go back to what it was before the
 /// first of them. Going back takes no memory, so it never fails. The view is the page as it is, and
 /// as it was.
 ///
-/// A trial runs in its tree, which can go back to the nodes that it had. It keeps how many values
+/// A trial runs in its tree, which can go back to the nodes that it had. It keeps the values that
 /// there were, and the splices that take the list back, for which the list has room.
 pub struct Trial {
     list: Linear,
@@ -38,7 +40,7 @@ pub struct Trial {
     selection: Selection,
     alloc: Global,
     back: Back,
-    values: usize,
+    values: FirstValues,
     first_selection: Selection,
 }
 
@@ -51,13 +53,14 @@ impl Drop for Trial {
             selection: _,
             alloc: _,
             back,
-            values: _,
+            values,
             first_selection: _,
         } = self;
         drop(list);
         drop(store);
         drop(tree);
         drop(back);
+        drop(values);
     }
 }
 
@@ -79,10 +82,11 @@ impl Model for Trial {
 }
 
 impl Trial {
-    ghost use Rattle.ve_editor.specs.Edited.{IsDraftOf, drafted, entry_by_value, EntryCites};
+    ghost use Rattle.ve_editor.specs.Edited.{AllStand, CanBeReverted, CutsUncited, EntryCites, IsDraftOf, IsUncited, drafted, entry_by_value, reversal_over};
     ghost use Rattle.ve_editor.specs.Page.{IsPage, nodes_of_tree, replica_of};
     ghost use Rattle.ve_editor.specs.Refusal.{IsEditRefusal};
-    ghost use Rattle.ve_editor.specs.Stays.{IsUnchanged, NumbersStay};
+    ghost use Rattle.ve_editor.specs.Stays.{IsUnchanged, NumbersStay, NumbersStayOver};
+    ghost use Rattle.ve_tx.specs.ByValue.{ParcelCites, parcel_by_value};
 
     /// A trial of an editor's page. Nothing is copied, and it takes no step. Where there is no
     /// memory for it, the editor is given back.
@@ -107,7 +111,7 @@ impl Trial {
                     selection,
                     alloc,
                     back: Back::new(alloc),
-                    values,
+                    values: FirstValues::Prefix(values),
                     first_selection: selection,
                 })
             }
@@ -207,6 +211,97 @@ impl Trial {
         }
     }
 
+    /// Performs another's parcel as `Editor::admit` does. An `Err` may leave some of its
+    /// transactions performed. What the page was when the trial began stays what it can go back to.
+    pub fn admit<L: Ledger>(
+        &mut self,
+        parcel: &Parcel,
+        steps: &mut Steps<L>,
+    ) -> Result<Entry, Memory>
+        requires cites { ParcelCites parcel.now }
+        requires stands { AllStand (parcel_by_value parcel.now) self.old.page.items }
+        ensures page { OnOk result (
+            replica_of self.new.page
+            ≡ all_performed (parcel_by_value parcel.now) (replica_of self.old.page)) }
+        ensures numbers { OnOk result (
+            NumbersStayOver (parcel_by_value parcel.now) self.old.page.items self.old.page.nodes
+            self.new.page.nodes) }
+        ensures entry { IfOk result (λ entry.
+            entry_by_value self.new.page.store entry
+            ≡ entry_against parcel.now.entry.takes_back (parcel_by_value parcel.now)
+            (replica_of self.old.page)) }
+        ensures cites { IfOk result (EntryCites self.new.page.store) }
+        ensures first { self.new.first ≡ self.old.first }
+        ensures counted { steps.old ≤ steps.new }
+        ensures steps { steps.new
+            ≤ steps.old
+            + cost_of_transactions (parcel_by_value parcel.now) self.old.page.items }
+    {
+        let store_before = self.store.len();
+        let txs = perform_others(
+            self.alloc,
+            self,
+            parcel.entry.txs.as_slice(),
+            parcel.values.as_slice(),
+            steps,
+        )?;
+        Ok(Entry {
+            txs,
+            store_before,
+            store_after: self.store.len(),
+            takes_back: parcel.entry.takes_back,
+        })
+    }
+
+    /// Cuts the values of an entry off the store, where they are the last of it; before it was
+    /// taken back the store had so many. An `Err` changes nothing.
+    fn cut_back(&mut self, entry: &Entry, was: usize) -> Result<(), Memory>
+        requires distinct { AreDistinct self.old.page.store }
+        requires uncited { IsUncited (entry_by_value self.old.page.store entry.now) was (
+            replica_of self.old.page) }
+        ensures page { OnOk result (
+            self.new.page
+            ≡ record self.old.page {
+              store = cut_back (entry_by_value self.old.page.store entry.now) was
+                  self.old.page.store;
+            }) }
+        ensures first { self.new.first ≡ self.old.first }
+    {
+        if was == entry.store_after && entry.store_before < entry.store_after {
+            let left = entry.store_before;
+            self.values.keep(self.alloc, &self.store, left)?;
+            self.store.truncate(left);
+        }
+        Ok(())
+    }
+
+    /// Takes an entry back as `Editor::revert` does. An `Err` may leave some of its transactions
+    /// taken back. What the page was when the trial began stays what it can go back to.
+    pub fn revert<L: Ledger>(&mut self, entry: &Entry, steps: &mut Steps<L>) -> Result<(), Memory>
+        requires cites { EntryCites self.old.page.store entry.now }
+        requires stands { CanBeReverted (entry_by_value self.old.page.store entry.now) (
+            replica_of self.old.page) }
+        requires uncited { CutsUncited (entry_by_value self.old.page.store entry.now) (
+            replica_of self.old.page) }
+        ensures page { OnOk result (
+            replica_of self.new.page
+            ≡ reverted (entry_by_value self.old.page.store entry.now)
+            (replica_of self.old.page)) }
+        ensures numbers { OnOk result (
+            NumbersStayOver (reversal_over self.old.page.store entry.now.txs) self.old.page.items
+            self.old.page.nodes self.new.page.nodes) }
+        ensures first { self.new.first ≡ self.old.first }
+        ensures counted { steps.old ≤ steps.new }
+        ensures steps { steps.new
+            ≤ steps.old
+            + cost_of_transactions (reversal_over self.old.page.store entry.now.txs)
+            self.old.page.items }
+    {
+        let was = self.store.len();
+        put_all_back(self.alloc, self, entry.txs.as_slice(), steps)?;
+        self.cut_back(entry, was)
+    }
+
     /// Ends the trial with the page as it is.
     pub fn keep(self) -> Editor
         ensures { result ≡ self.page }
@@ -218,10 +313,11 @@ impl Trial {
             selection,
             alloc,
             back,
-            values: _,
+            values,
             first_selection: _,
         } = self;
         drop(back);
+        drop(values);
         tree.keep();
         Editor {
             list,
@@ -238,7 +334,7 @@ impl Trial {
     {
         let Trial {
             mut list,
-            mut store,
+            store,
             mut tree,
             selection: _,
             alloc,
@@ -247,7 +343,7 @@ impl Trial {
             first_selection,
         } = self;
         back.put_back(&mut list);
-        store.truncate(values);
+        let store = values.put_back(store);
         drop(back);
         tree.take_back();
         Editor {
