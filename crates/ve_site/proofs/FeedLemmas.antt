@@ -1,5 +1,5 @@
--- Entries of other sites, taken one run after the other on a copy, or in place.
-use Rattle.std.proofs.Common.{◌≡◌, ◌≤◌, ◌<◌, ◌+◌, ◌-◌, ℕ, List, [], ◌∷◌, ◌++◌, length, map, take, drop, get_or, refl, sym, ap, ◌∙◌, subst, arith}
+-- Entries of other sites, taken one run after the other on a trial.
+use Rattle.std.proofs.Common.{◌≡◌, ◌≤◌, ◌<◌, ◌+◌, ◌-◌, ℕ, List, [], ◌∷◌, ◌++◌, length, map, take, drop, get_or, Result, Ok, Err, OnOk, refl, sym, ap, ◌∙◌, subst, arith}
 use Rattle.std.proofs.lemmas.List.{append-nil, at_drop_more, drop_all, drop-drop, length-drop, map-append, take_all, take_more}
 use Rattle.model_change.specs.Replay.{AllRun, flattened}
 use Rattle.model_site.specs.Entries.{Parcel as ModelParcel}
@@ -17,7 +17,7 @@ use Rattle.ve_site.proofs.MakingLemmas.{may_take_both, steps_of_taking, taken-ap
 
 -- it stands as a site does
 pub taking_stands : (t : Taking) → IsTaking t → Stands (taking_site t)
-taking_stands t is = is.stands t.untold
+taking_stands t is = is.stands t.rest.untold
 
 -- the first so many count no more than all
 pub first_within : (n : ℕ) (parcels : List Parcel) (s : Site) (before after : ℕ) → after ≤ before + cost_of_transactions (taking_all (map parcel_by_value (take n parcels)) s) s.replica.items →
@@ -46,12 +46,12 @@ module _ (now : Taking) (parcels : List Parcel) (n : ℕ) (new : Taking) (is : I
   later_taken = ap (take_foreign later) taken.site ∙ (sym (taken-append first later (taking_site now)) ∙ ap (λ ps. take_foreign ps (taking_site now)) (sym (parted_by_value n parcels)))
 
   -- what they count together
-  both_count : cost_of_transactions (taking_all (map parcel_by_value parcels) (taking_site now)) now.editor.items
-      ≡ cost_of_transactions (taking_all first (taking_site now)) now.editor.items + cost_of_transactions (taking_all later (taking_site new)) new.editor.items
+  both_count : cost_of_transactions (taking_all (map parcel_by_value parcels) (taking_site now)) now.trial.page.items
+      ≡ cost_of_transactions (taking_all first (taking_site now)) now.trial.page.items + cost_of_transactions (taking_all later (taking_site new)) new.trial.page.items
   both_count =
-      ap (λ ps. cost_of_transactions (taking_all ps (taking_site now)) now.editor.items) (parted_by_value n parcels)
+      ap (λ ps. cost_of_transactions (taking_all ps (taking_site now)) now.trial.page.items) (parted_by_value n parcels)
       ∙ (steps_of_taking first later (taking_site now)
-      ∙ ap (λ (s : Site). cost_of_transactions (taking_all first (taking_site now)) now.editor.items + cost_of_transactions (taking_all later s) s.replica.items) (sym taken.site))
+      ∙ ap (λ (s : Site). cost_of_transactions (taking_all first (taking_site now)) now.trial.page.items + cost_of_transactions (taking_all later s) s.replica.items) (sym taken.site))
 
 -- ---- a front, and the entry after it
 
@@ -85,14 +85,14 @@ module _ (now : Taking) (parcels : List Parcel) (n : ℕ) (between : Taking) (is
     is = still;
   }
 
-  pub some_within : (start one two : ℕ) → one ≤ start + cost_of_transactions (taking_all (map parcel_by_value (take n parcels)) (taking_site now)) now.editor.items →
-      two ≤ one + cost_of_transactions (taking_one (parcel_by_value next) (taking_site between)) between.editor.items →
-      two ≤ start + cost_of_transactions (taking_all (map parcel_by_value (take (n + 1) parcels)) (taking_site now)) now.editor.items
+  pub some_within : (start one two : ℕ) → one ≤ start + cost_of_transactions (taking_all (map parcel_by_value (take n parcels)) (taking_site now)) now.trial.page.items →
+      two ≤ one + cost_of_transactions (taking_one (parcel_by_value next) (taking_site between)) between.trial.page.items →
+      two ≤ start + cost_of_transactions (taking_all (map parcel_by_value (take (n + 1) parcels)) (taking_site now)) now.trial.page.items
   some_within start one two h k =
       let first = map parcel_by_value (take n parcels) in
-      let both = ap (λ ps. cost_of_transactions (taking_all ps (taking_site now)) now.editor.items) with_next ∙ steps_of_taking first (parcel_by_value next ∷ []) (taking_site now) in
+      let both = ap (λ ps. cost_of_transactions (taking_all ps (taking_site now)) now.trial.page.items) with_next ∙ steps_of_taking first (parcel_by_value next ∷ []) (taking_site now) in
       let last = ap (λ (s : Site). cost_of_transactions (taking_all (parcel_by_value next ∷ []) s) s.replica.items) (sym taken.site) in
-      let alone = ap (λ ts. cost_of_transactions ts between.editor.items) (append-nil (taking_one (parcel_by_value next) (taking_site between))) in
+      let alone = ap (λ ts. cost_of_transactions ts between.trial.page.items) (append-nil (taking_one (parcel_by_value next) (taking_site between))) in
       omega (arith, h, k, both, last, alone)
 
 -- ---- until none is left
@@ -103,13 +103,14 @@ pub record IsAlong (old : Taking) (parcels : List Parcel) (at : ℕ) (now : Taki
   pub site : take_foreign (map parcel_by_value (drop at parcels)) (taking_site now) ≡ take_foreign (map parcel_by_value parcels) (taking_site old)
   pub run : AllRun (flattened (map parcel_by_value (drop at parcels))) (ground_of (taking_site now))
   pub within : at ≤ length parcels
+  pub first : now.trial.first ≡ old.trial.first
   pub counted : before ≤ after
-  pub spent : after + cost_of_transactions (taking_all (map parcel_by_value (drop at parcels)) (taking_site now)) now.editor.items
-      ≤ before + cost_of_transactions (taking_all (map parcel_by_value parcels) (taking_site old)) old.editor.items
+  pub spent : after + cost_of_transactions (taking_all (map parcel_by_value (drop at parcels)) (taking_site now)) now.trial.page.items
+      ≤ before + cost_of_transactions (taking_all (map parcel_by_value parcels) (taking_site old)) old.trial.page.items
 
 pub begun : (old : Taking) (parcels : List Parcel) (before : ℕ) → IsTaking old → AllRun (flattened (map parcel_by_value parcels)) (ground_of (taking_site old)) →
     IsAlong old parcels 0 old before before
-begun old parcels before is run = record { is = is; site = refl; run = run; within = omega arith; counted = omega arith; spent = omega arith }
+begun old parcels before is run = record { is = is; site = refl; run = run; within = omega arith; first = refl; counted = omega arith; spent = omega arith }
 
 -- what a call gets of a slice
 pub rest_of : {A : Type 0} (at : ℕ) (xs : List A) → take (length xs - at) (drop at xs) ≡ drop at xs
@@ -120,23 +121,23 @@ module _ (old : Taking) (parcels : List Parcel) (at : ℕ) (now : Taking) (befor
   pub rest_run_on : AllRun (flattened (map parcel_by_value rest)) (ground_of (taking_site now))
   rest_run_on = subst (λ ps. AllRun (flattened (map parcel_by_value ps)) (ground_of (taking_site now))) (sym rest_is) along.run
 
-  spent_on : after + cost_of_transactions (taking_all (map parcel_by_value rest) (taking_site now)) now.editor.items
-      ≤ before + cost_of_transactions (taking_all (map parcel_by_value parcels) (taking_site old)) old.editor.items
+  spent_on : after + cost_of_transactions (taking_all (map parcel_by_value rest) (taking_site now)) now.trial.page.items
+      ≤ before + cost_of_transactions (taking_all (map parcel_by_value parcels) (taking_site old)) old.trial.page.items
   spent_on =
-      subst (λ ps. after + cost_of_transactions (taking_all (map parcel_by_value ps) (taking_site now)) now.editor.items
-      ≤ before + cost_of_transactions (taking_all (map parcel_by_value parcels) (taking_site old)) old.editor.items) (sym rest_is) along.spent
+      subst (λ ps. after + cost_of_transactions (taking_all (map parcel_by_value ps) (taking_site now)) now.trial.page.items
+      ≤ before + cost_of_transactions (taking_all (map parcel_by_value parcels) (taking_site old)) old.trial.page.items) (sym rest_is) along.spent
 
-  pub failed_within : (later : ℕ) → later ≤ after + cost_of_transactions (taking_all (map parcel_by_value rest) (taking_site now)) now.editor.items →
-      later ≤ before + cost_of_transactions (taking_all (map parcel_by_value parcels) (taking_site old)) old.editor.items
+  pub failed_within : (later : ℕ) → later ≤ after + cost_of_transactions (taking_all (map parcel_by_value rest) (taking_site now)) now.trial.page.items →
+      later ≤ before + cost_of_transactions (taking_all (map parcel_by_value parcels) (taking_site old)) old.trial.page.items
   failed_within later h = let s = spent_on in omega (arith, h, s)
 
   module _ (n : ℕ) (new : Taking) (taken : HaveTaken rest now n new) where
     dropped : map parcel_by_value (drop n rest) ≡ map parcel_by_value (drop (at + n) parcels)
     dropped = ap (λ ps. map parcel_by_value (drop n ps)) rest_is ∙ ap (map parcel_by_value) (drop-drop n at parcels)
 
-    pub one_run_further : (later : ℕ) → after ≤ later → later ≤ after + cost_of_transactions (taking_all (map parcel_by_value (take n rest)) (taking_site now)) now.editor.items →
+    pub one_run_further : (later : ℕ) → new.trial.first ≡ now.trial.first → after ≤ later → later ≤ after + cost_of_transactions (taking_all (map parcel_by_value (take n rest)) (taking_site now)) now.trial.page.items →
         IsAlong old parcels (at + n) new before later
-    one_run_further later counted spent =
+    one_run_further later first counted spent =
         let both = both_count now rest n new along.is rest_run_on taken in
         let s = spent_on in
         let c = along.counted in
@@ -148,10 +149,11 @@ module _ (old : Taking) (parcels : List Parcel) (at : ℕ) (now : Taking) (befor
               ∙ (later_taken now rest n new along.is rest_run_on taken ∙ (ap (λ ps. take_foreign (map parcel_by_value ps) (taking_site now)) rest_is ∙ along.site));
           run = subst (λ ps. AllRun (flattened ps) (ground_of (taking_site new))) dropped (later_run now rest n new along.is rest_run_on taken);
           within = omega (arith, taken.within, size, w);
+          first = first ∙ along.first;
           counted = omega (arith, c, counted);
           spent =
-              subst (λ ps. later + cost_of_transactions (taking_all ps (taking_site new)) new.editor.items
-              ≤ before + cost_of_transactions (taking_all (map parcel_by_value parcels) (taking_site old)) old.editor.items) dropped (omega (arith, both, s, spent));
+              subst (λ ps. later + cost_of_transactions (taking_all ps (taking_site new)) new.trial.page.items
+              ≤ before + cost_of_transactions (taking_all (map parcel_by_value parcels) (taking_site old)) old.trial.page.items) dropped (omega (arith, both, s, spent));
         }
 
 pub all_taken : (old : Taking) (parcels : List Parcel) (at : ℕ) (now : Taking) (before after : ℕ) → IsAlong old parcels at now before after → length parcels ≤ at →
@@ -161,5 +163,10 @@ all_taken old parcels at now before after along end =
     sym (ap (λ ps. take_foreign ps (taking_site now)) none) ∙ along.site
 
 pub all_within : (old : Taking) (parcels : List Parcel) (at : ℕ) (now : Taking) (before after : ℕ) → IsAlong old parcels at now before after →
-    after ≤ before + cost_of_transactions (taking_all (map parcel_by_value parcels) (taking_site old)) old.editor.items
+    after ≤ before + cost_of_transactions (taking_all (map parcel_by_value parcels) (taking_site old)) old.trial.page.items
 all_within old parcels at now before after along = let s = along.spent in omega (arith, s)
+
+-- a last call that gives what was taken
+pub on_ok : {T E : Type 0} (r : Result T E) (P : Type 0) → P → OnOk r P
+on_ok (Ok x) P h = h
+on_ok (Err e) P h = tt

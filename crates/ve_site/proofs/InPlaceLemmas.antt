@@ -1,5 +1,5 @@
--- An entry of another site taken in place, where no pending one is dropped for it, and a feed that
--- is taken so, or on a copy.
+-- An entry of another site taken without a trial, where no pending one is dropped for it, and a feed
+-- that is taken so, or on a trial.
 use Rattle.std.proofs.Common.{◌≡◌, ◌≤◌, ◌+◌, ◌==◌, false, true, ℕ, zero, suc, List, [], ◌∷◌, ◌++◌, length, map, drop, get_or, Option, Some, None, sym, ap, ◌∙◌, subst, arith}
 use Rattle.std.proofs.lemmas.List.{drop_all}
 use Rattle.model_change.specs.Replay.{AllRun, flattened}
@@ -14,19 +14,17 @@ use Rattle.ve_tx.specs.declared.entry.Entry.{Entry}
 use Rattle.ve_tx.specs.declared.parcel.Parcel.{Parcel}
 use Rattle.ve_tx.specs.ByValue.{parcel_by_value}
 use Rattle.model_change.specs.Cost.{cost_of_transactions}
-use Rattle.ve_editor.specs.Counted.{steps_over}
+use Rattle.ve_editor.specs.Counted.{steps_of_blank, steps_over}
 use Rattle.ve_editor.specs.Edited.{AllStand, entry_by_value}
-use Rattle.model_items.specs.Cost.{cost_of_tree}
-use Rattle.ve_site.specs.declared.taking.Taking.{Taking}
 use Rattle.ve_site.specs.Dropped.{IsAdmitted, IsStack, back_over}
 use Rattle.ve_site.specs.Ground.{ground_of}
 use Rattle.ve_site.specs.Numbered.{Numbered, with_site}
 use Rattle.model_site.specs.Made.{taking_all, taking_one}
 use Rattle.ve_site.specs.Taking.{steps_of_feed}
-use Rattle.ve_site.specs.Underway.{AreTakenInPlace, IsTakenInPlace, MakesCopy, taking_site, with_none_undone}
+use Rattle.ve_site.specs.Underway.{AreTakenInPlace, IsTakenInPlace, TakesOnTrial, with_none_undone}
 use Rattle.ve_site.proofs.DropLemmas.{none_taken_back}
 use Rattle.ve_site.proofs.MakingLemmas.{making_anyway}
-use Rattle.ve_site.proofs.SeveralLemmas.{one_makes_copy}
+use Rattle.ve_site.proofs.SeveralLemmas.{one_takes_trial}
 use Rattle.ve_site.proofs.TakenLemmas.{taken_anyway}
 
 -- ---- where none is dropped
@@ -50,7 +48,7 @@ module _ (editor : Replica) (all : List Entry) (left : ℕ) (ts : ModelParcel) (
 pub admitted_in_place : (old new : Replica) (all : List Entry) (left : ℕ) (ts : ModelParcel) → IsStack old all → left ≡ length all → new ≡ all_performed ts old → IsAdmitted old all left ts new
 admitted_in_place old new all left ts stack whole page = record { middle = old; dropped = none_taken_back old all left stack whole; page = page }
 
--- one transaction at most is made without a copy
+-- one transaction at most is made without a trial
 pub one_in_place : (ts : List Transaction) (r : Replica) (before after : ℕ) → length ts ≤ 1 → after ≤ before + steps_over ts r.items → after ≤ before + cost_of_transactions ts r.items
 one_in_place [] r before after one h = h
 one_in_place (t ∷ []) r before after one h = omega (arith, h)
@@ -73,23 +71,23 @@ module _ (parcels : List Parcel) (one : Parcel) (n : length parcels ≡ 1) (is :
 
   pub one_taken : (old new : Numbered) (taken : Option ℕ) → IsTakenInPlace (parcel_by_value one) old taken new → AreTakenInPlace (map parcel_by_value parcels) old taken new
   one_taken old new (Some left) h = (h.0 ∙ ap (λ ps. with_site (take_foreign ps old.site) old) (sym alone), h.1)
-  one_taken old new None h = (h.0, subst (λ ps. MakesCopy ps old.site) (sym alone) (one_makes_copy (parcel_by_value one) old.site h.1))
+  one_taken old new None h = (h.0, subst (λ ps. TakesOnTrial ps old.site) (sym alone) (one_takes_trial (parcel_by_value one) old.site h.1))
 
   pub one_counts : (s : Site) (before after : ℕ) → after ≤ before + cost_of_transactions (taking_one (parcel_by_value one) s) s.replica.items →
       after ≤ before + steps_of_feed (map parcel_by_value parcels) s
   one_counts s before after h = subst (λ ps. after ≤ before + steps_of_feed ps s) (sym alone) (omega (arith, h))
 
--- ---- on a copy
+-- ---- on a trial
 
-module _ (entries : List ModelParcel) (s : Site) (copy : Taking) (is : taking_site copy ≡ with_none_undone s) where
-  pub copy_runs : AllRun (flattened entries) (ground_of s) → AllRun (flattened entries) (ground_of (taking_site copy))
-  copy_runs run = subst (λ t. AllRun (flattened entries) (ground_of t)) (sym is) run
+module _ (entries : List ModelParcel) (s begun : Site) (is : begun ≡ with_none_undone s) where
+  pub begun_runs : AllRun (flattened entries) (ground_of s) → AllRun (flattened entries) (ground_of begun)
+  begun_runs run = subst (λ t. AllRun (flattened entries) (ground_of t)) (sym is) run
 
-  pub copy_takes : take_foreign entries (taking_site copy) ≡ take_foreign entries s
-  copy_takes = ap (take_foreign entries) is ∙ taken_anyway entries s
+  pub begun_takes : take_foreign entries begun ≡ take_foreign entries s
+  begun_takes = ap (take_foreign entries) is ∙ taken_anyway entries s
 
-  pub copy_counts : (before between after : ℕ) → between ≤ before + cost_of_tree s.replica.items → after ≤ between + cost_of_transactions (taking_all entries (taking_site copy)) copy.editor.items →
-      after ≤ before + (cost_of_tree s.replica.items + cost_of_transactions (taking_all entries s) s.replica.items)
-  copy_counts before between after h k =
+  pub begun_counts : (before between after : ℕ) → between ≤ before + steps_of_blank → after ≤ between + cost_of_transactions (taking_all entries begun) begun.replica.items →
+      after ≤ before + (steps_of_blank + cost_of_transactions (taking_all entries s) s.replica.items)
+  begun_counts before between after h k =
       let same = ap (λ (t : Site). cost_of_transactions (taking_all entries t) t.replica.items) is ∙ ap (λ ts. cost_of_transactions ts s.replica.items) (sym (making_anyway entries s)) in
       omega (arith, h, k, same)

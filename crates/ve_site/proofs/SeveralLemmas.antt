@@ -13,11 +13,10 @@ use Rattle.model_site.specs.Joined.{Joined, join_entries, joined_first}
 use Rattle.model_site.specs.Site.{Site, pending}
 use Rattle.model_site_law.proofs.ReplayLemmas.{parcels-drop}
 use Rattle.model_site_law.proofs.UntilConflictLemmas.{joined_until_conflict}
-use Rattle.model_items.specs.Cost.{cost_of_tree}
 use Rattle.model_change.specs.Cost.{cost_of_transactions}
-use Rattle.ve_editor.specs.Counted.{steps_of_copy}
+use Rattle.ve_editor.specs.Counted.{steps_besides, steps_of_blank}
 use Rattle.model_site.specs.Made.{taking_one}
-use Rattle.ve_site.specs.Underway.{MakesCopy}
+use Rattle.ve_site.specs.Underway.{TakesOnTrial}
 
 -- over no transaction nothing is in conflict
 over_none : (mine : List Transaction) → join_list [] mine ≡ Ok ([], mine)
@@ -87,19 +86,19 @@ module _ (foreign : Parcel) (s : Site) where
   pub two_where_several : 2 ≤ length foreign → 2 ≤ length (taking_one foreign s)
   two_where_several two = let all = made_length in let same = as_many in omega (arith, two, all, same)
 
--- ---- what is made on a copy
+-- ---- what is made on a trial
 
-copied : (ts : List Transaction) (items : List PlainItem) → 2 ≤ length ts → steps_of_copy ts items ≡ cost_of_tree items
-copied [] items two = absurd (omega (arith, two))
-copied (t ∷ []) items two = absurd (omega (arith, two))
-copied (t ∷ u ∷ ts) items two = refl
+besides : (ts : List Transaction) → 2 ≤ length ts → steps_besides ts ≡ steps_of_blank
+besides [] two = absurd (omega (arith, two))
+besides (t ∷ []) two = absurd (omega (arith, two))
+besides (t ∷ u ∷ ts) two = refl
 
-pub one_makes_copy : (foreign : Parcel) (s : Site) → 2 ≤ length (taking_one foreign s) → MakesCopy (foreign ∷ []) s
-one_makes_copy foreign s two =
-    ap (λ n. n + cost_of_transactions (taking_one foreign s) s.replica.items) (copied (taking_one foreign s) s.replica.items two)
-    ∙ ap (λ ts. cost_of_tree s.replica.items + cost_of_transactions ts s.replica.items) (sym (append-nil (taking_one foreign s)))
+pub one_takes_trial : (foreign : Parcel) (s : Site) → 2 ≤ length (taking_one foreign s) → TakesOnTrial (foreign ∷ []) s
+one_takes_trial foreign s two =
+    ap (λ n. n + cost_of_transactions (taking_one foreign s) s.replica.items) (besides (taking_one foreign s) two)
+    ∙ ap (λ ts. steps_of_blank + cost_of_transactions ts s.replica.items) (sym (append-nil (taking_one foreign s)))
 
-pub several_make_copy : (entries : List Parcel) (s : Site) → 2 ≤ length entries → MakesCopy entries s
-several_make_copy [] s two = absurd (omega (arith, two))
-several_make_copy (entry ∷ []) s two = absurd (omega (arith, two))
-several_make_copy (entry ∷ other ∷ entries) s two = refl
+pub several_take_trial : (entries : List Parcel) (s : Site) → 2 ≤ length entries → TakesOnTrial entries s
+several_take_trial [] s two = absurd (omega (arith, two))
+several_take_trial (entry ∷ []) s two = absurd (omega (arith, two))
+several_take_trial (entry ∷ other ∷ entries) s two = refl

@@ -16,7 +16,6 @@ use Rattle.model_site.specs.declared.site_fault.RedoFault.TheVariants as redo_wh
 use Rattle.model_site.specs.declared.site_fault.SendFault.TheVariants as send_why
 use Rattle.ve_tx.specs.declared.entry.Entry.{Entry}
 use Rattle.ve_tx.specs.declared.parcel.Parcel.{Parcel}
-use Rattle.model_items.specs.Cost.{cost_of_tree}
 use Rattle.model_site.specs.Made.{undoing, redoing}
 use Rattle.ve_site.specs.Dropped.{numbered_alike}
 use Rattle.ve_site.specs.Ground.{ground_of, as_opened, AreOver}
@@ -159,20 +158,20 @@ abbrev all_gone : Transaction
 all_gone = Replace (letters (codes "ad")) [] ∷ []
 
 -- So b and c can't stay between them: both are taken back, the last one first, and a and d go then,
--- all on one copy. Each time the root and its one text node become shorter, and at last the text
--- node goes.
-three_on_a_copy : steps_of_take (Foreign ((all_gone ∷ []) ∷ [])) in_flight ≡ cost_of_tree (letters (codes "abcd")) + (32 + (32 + 32))
-three_on_a_copy = refl
+-- all on one trial, for which 8 are counted. Each time the root and its one text node become
+-- shorter, and at last the text node goes.
+three_on_a_trial : steps_of_take (Foreign ((all_gone ∷ []) ∷ [])) in_flight ≡ 8 + (32 + (32 + 32))
+three_on_a_trial = refl
 
 -- x before a is in nobody's way; the root and its text node become longer
 abbrev puts_first : Transaction
 puts_first = Replace [] (letters (codes "x")) ∷ Retain 2 ∷ []
 
-alone_in_place : steps_of_take (Foreign ((puts_first ∷ []) ∷ [])) in_flight ≡ 32
-alone_in_place = refl
+alone_without_a_trial : steps_of_take (Foreign ((puts_first ∷ []) ∷ [])) in_flight ≡ 32
+alone_without_a_trial = refl
 
-two_on_a_copy : steps_of_take (Foreign ((puts_first ∷ []) ∷ [] ∷ [])) in_flight ≡ cost_of_tree (letters (codes "abcd")) + 32
-two_on_a_copy = refl
+two_on_a_trial : steps_of_take (Foreign ((puts_first ∷ []) ∷ [] ∷ [])) in_flight ≡ 8 + 32
+two_on_a_trial = refl
 
 none_counts_nothing : steps_of_take (Foreign []) in_flight ≡ 0
 none_counts_nothing = refl

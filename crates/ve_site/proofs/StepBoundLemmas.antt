@@ -1,11 +1,9 @@
--- How many steps a take counts, and how long its lists are: no transaction counts more than a tree
--- of the longest list does.
+-- How many steps a take counts, and how long its lists are: no transaction counts more than eight for
+-- each item of the longest list, and sixteen more.
 use Rattle.std.proofs.Common.{◌≡◌, ◌≤◌, ℕ, suc, ◌+◌, ◌*◌, List, [], ◌∷◌, ◌++◌, length, map, take, drop, refl, sym, ap, ◌∙◌, subst, arith, add-mul, suc-mul}
 use Rattle.std.proofs.lemmas.List.{append-nil, length-append, length-map, take-append-drop}
 use Rattle.model_items.specs.declared.plain_item.PlainItem.{PlainItem}
-use Rattle.model_items.specs.declared.plain_item.PlainItem.TheVariants.{Char, Opening, Closing}
 use Rattle.model_items.specs.Law.{Lawful}
-use Rattle.model_items.specs.Tree.{Forest, Empty, Run, Branch, Reading, first_forest, node_count, reading, reading_with, with_char}
 use Rattle.model_change.specs.Inverse.{inverse}
 use Rattle.model_change.specs.Replay.{AllRun, Runs, flattened, inserted_by, replay, reversal}
 use Rattle.model_change.specs.Transaction.{Transaction, Retain, Replace, Attribute, all_inserted, all_removed, edited, new_length, old_length}
@@ -22,9 +20,8 @@ use Rattle.model_site_law.specs.Sound.{Sound}
 use Rattle.model_site_law.proofs.ReplayLemmas.{AllRun-parts, flattened-append, parcels-drop, replay-append, sound_after}
 use Rattle.model_site_law.proofs.RevertLemmas.{items_all_reverted}
 use Rattle.model_site_law.proofs.UntilConflictLemmas.{joined_until_conflict}
-use Rattle.model_items.specs.Cost.{cost_of_tree}
 use Rattle.model_change.specs.Cost.{cost_of_transaction, cost_of_transactions}
-use Rattle.ve_editor.specs.Counted.{steps_of_copy}
+use Rattle.ve_editor.specs.Counted.{steps_besides, steps_of_blank}
 use Rattle.ve_site.specs.Ground.{Stands, ground_of}
 use Rattle.model_site.specs.Made.{taking_all, taking_one}
 use Rattle.ve_site.specs.Taking.{steps_of_feed}
@@ -34,41 +31,13 @@ use Rattle.ve_site.proofs.MakingLemmas.{one_replayed, steps_of_both}
 use Rattle.ve_site.proofs.TouchLemmas.{touch_within}
 use Rattle.ve_site.proofs.TakenLemmas.{committed_runs, has_taken, may_take_next}
 
--- ---- a tree has no more nodes than its list has items
+-- ---- one transaction
 
-waiting : List Forest → ℕ
-waiting [] = 0
-waiting (f ∷ fs) = node_count f + waiting fs
-
-with_char_more : (f : Forest) → node_count (with_char f) ≤ suc (node_count f)
-with_char_more Empty = omega arith
-with_char_more (Run count later) = omega arith
-with_char_more (Branch kind inside later) = omega arith
-
-read_more : (x : PlainItem) (r : Reading) →
-    node_count (reading_with x r).here + waiting (reading_with x r).outer ≤ suc (node_count r.here + waiting r.outer)
-unfolding waiting
-read_more (Char c marks) r = omega (arith, with_char_more r.here)
-read_more (Closing kind pre) r = omega arith
-read_more (Opening kind head marks pre origin generated) r = by_outer r.outer
-  where
-    by_outer : (fs : List Forest) → 1 + (node_count r.here + node_count (first_forest fs)) + waiting (drop 1 fs) ≤ suc (node_count r.here + waiting fs)
-    by_outer [] = omega arith
-    by_outer (f ∷ fs) = omega arith
-
-read_within : (items : List PlainItem) → node_count (reading items).here + waiting (reading items).outer ≤ length items
-unfolding waiting
-read_within [] = omega arith
-read_within (x ∷ items) = let rest = read_within items in let one = read_more x (reading items) in omega (arith, rest, one)
-
--- those of one tree, where no list is longer than n
+-- those of one transaction, where no list is longer than n
 abbrev each : ℕ → ℕ
 each n = 8 * (n + 2)
 
-steps_within : (items : List PlainItem) (n : ℕ) → length items ≤ n → cost_of_tree items ≤ each n
-steps_within items n small = let all = read_within items in omega (arith, all, small)
-
--- and those of one transaction, where the list with all that it inserts isn't longer
+-- where the list with all that it inserts isn't longer
 one_within : (t : Transaction) (items : List PlainItem) (n : ℕ) → Lawful items → Runs t items → length items + length (all_inserted t) ≤ n → cost_of_transaction t items ≤ each n
 one_within t items n lawful run small = let few = touch_within t items lawful run.applies run.lawful in omega (arith, few, small)
 
@@ -103,11 +72,6 @@ parts_of a b m = add-mul a b m
 insert-append : (ts us : List Transaction) → inserted_by (ts ++ us) ≡ inserted_by ts + inserted_by us
 insert-append [] us = omega arith
 insert-append (t ∷ ts) us = let rest = insert-append ts us in omega arith
-
-copy_within : (ts : List Transaction) (items : List PlainItem) (n : ℕ) → length items ≤ n → steps_of_copy ts items ≤ each n
-copy_within [] items n small = omega arith
-copy_within (t ∷ []) items n small = omega arith
-copy_within (t ∷ u ∷ ts) items n small = steps_within items n small
 
 made_within : (ts : List Transaction) (items : List PlainItem) (n : ℕ) → Lawful items → AllRun ts items → length items + inserted_by ts ≤ n → cost_of_transactions ts items ≤ length ts * each n
 made_within [] items n lawful run small = omega arith
@@ -265,27 +229,23 @@ all_within (entry ∷ entries) s n stands run small =
     let total = ap (λ k. k * each n) same in
     omega (arith, first, rest_here, parts, sum, total)
 
--- with the copy on which they are made
-feed_within : (entries : List Parcel) (s : Site) (n : ℕ) → Stands s → AllRun (flattened entries) (ground_of s) → longest_of entries s ≤ n → length s.replica.items ≤ n →
-    steps_of_feed entries s ≤ each n + changes_of entries s * each n
-feed_within [] s n stands run small short = omega arith
-feed_within (entry ∷ []) s n stands run small short =
-    let copy = copy_within (taking_one entry s) s.replica.items n short in
+few_besides : (ts : List Transaction) → steps_besides ts ≤ steps_of_blank
+few_besides [] = omega arith
+few_besides (t ∷ []) = omega arith
+few_besides (t ∷ u ∷ ts) = omega arith
+
+-- with what stands in the page's place meanwhile
+feed_within : (entries : List Parcel) (s : Site) (n : ℕ) → Stands s → AllRun (flattened entries) (ground_of s) → longest_of entries s ≤ n →
+    steps_of_feed entries s ≤ steps_of_blank + changes_of entries s * each n
+feed_within [] s n stands run small = omega arith
+feed_within (entry ∷ []) s n stands run small =
+    let few = few_besides (taking_one entry s) in
     let all = all_within (entry ∷ []) s n stands run small in
     let made = subst (λ ts. cost_of_transactions ts s.replica.items ≤ changes_of (entry ∷ []) s * each n) (append-nil (taking_one entry s)) all in
-    omega (arith, copy, made)
-feed_within (entry ∷ other ∷ entries) s n stands run small short =
-    let copy = steps_within s.replica.items n short in
+    omega (arith, few, made)
+feed_within (entry ∷ other ∷ entries) s n stands run small =
     let all = all_within (entry ∷ other ∷ entries) s n stands run small in
-    omega (arith, copy, all)
+    omega (arith, all)
 
 pub take_is_bounded : TakeIsBounded
-take_is_bounded entries s stands run =
-    let n = longest_of entries s in
-    let size : length s.replica.items ≡ length (replay (flattened (parcels (pending s))) (ground_of s)) = ap (λ (l : List PlainItem). length l) stands.holds.list in
-    let grown = replay_within (flattened (parcels (pending s))) (ground_of s) stands.holds.runs in
-    let feed = feed_within entries s n stands run (omega arith) (omega (arith, size, grown)) in
-    let sum = one_more (changes_of entries s) (each n) in
-    let e : 1 + changes_of entries s ≡ suc (changes_of entries s) = omega arith in
-    let total = ap (λ k. k * each n) e in
-    omega (arith, feed, sum, total)
+take_is_bounded entries s stands run = feed_within entries s (longest_of entries s) stands run (omega arith)

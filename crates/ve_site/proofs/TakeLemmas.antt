@@ -183,7 +183,7 @@ module _ (editor : Replica) (untold : Untold) (seen : ℕ) (sent : List Entry) (
         undone_cite = subst (All ParcelCites) (sym undone) (All-nil ParcelCites);
       }
 
--- ---- a copy with nothing undone
+-- ---- with nothing undone
 
 module _ (editor : Replica) (untold : Untold) (seen : ℕ) (sent : List Entry) (old : Stacks) (shared : ℕ) (flight : Option ℕ) (is : IsSite editor seen sent old shared flight)
     (copy : Replica) (copied : List Entry) (now : Stacks) (page : copy ≡ editor) (same_sent : copied ≡ sent) (done : now.done ≡ old.done) (undone : now.undone ≡ []) where

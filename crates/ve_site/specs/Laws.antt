@@ -6,6 +6,7 @@ use Rattle.model_site.specs.Entries.{Parcel, parcels}
 use Rattle.model_site.specs.Joined.{join_entries}
 use Rattle.model_site.specs.Session.{Foreign}
 use Rattle.model_site.specs.Site.{Site, pending}
+use Rattle.ve_editor.specs.Counted.{steps_of_blank}
 use Rattle.ve_site.specs.Ground.{Stands, ground_of}
 use Rattle.ve_site.specs.Taking.{steps_of_take}
 
@@ -14,12 +15,13 @@ use Rattle.ve_site.specs.Taking.{steps_of_take}
 abbrev pub longest_of : List Parcel → Site → ℕ
 longest_of entries s = length (ground_of s) + (inserted_by (flattened entries) + inserted_by (flattened (parcels (pending s))))
 
--- A take makes at most one copy of a page. Beside it each transaction that it takes counts, and each
--- that is pending: at most eight steps for each item of the longest list, and sixteen more.
+-- Each transaction that a take takes counts, and each that is pending: at most eight steps for each
+-- item of the longest list, and sixteen more. Beside them a take counts no more than a page without
+-- text.
 abbrev pub TakeIsBounded : Type 0
 TakeIsBounded = (entries : List Parcel) (s : Site) → Stands s → AllRun (flattened entries) (ground_of s) →
     steps_of_take (Foreign entries) s
-    ≤ (1 + (length (flattened entries) + length (flattened (parcels (pending s))))) * (8 * (longest_of entries s + 2))
+    ≤ steps_of_blank + (length (flattened entries) + length (flattened (parcels (pending s)))) * (8 * (longest_of entries s + 2))
 
 -- Where the longest list of an entry's take is within the bound of a transaction's lengths, so is
 -- each transaction that the take joins.

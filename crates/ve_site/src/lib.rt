@@ -17,7 +17,7 @@
 //! which is `Made` of model_site; specs/Taking.antt says how many a take counts. specs/Attempted.antt
 //! says what an attempt makes of a site, and specs/Settled.antt defines the changed copy that a site
 //! takes. Three files serve private functions:
-//! specs/Dropped.antt (pending entries taken back), specs/Underway.antt (a copy while it takes
+//! specs/Dropped.antt (pending entries taken back), specs/Underway.antt (a site while it takes
 //! entries) and specs/Patches.antt (what operations change).
 //!
 //! Laws: `takes_are_bounded` (specs/Laws.antt) says what a take counts in plain words, and when it
@@ -29,10 +29,12 @@
 //! The type keeps the invariant on the site's confirmed list: its list with its pending entries
 //! taken back. Neither the opened page nor a committed entry is kept for that.
 //!
-//! A take copies the page at most once, and not at all where one entry makes one transaction; else
-//! want of memory would leave a part of it done. Entries that are in conflict with no pending one
-//! are taken as one run, for which the pending ones are written once. The steps of a take are
-//! counted by definition, so one that copied the page for each entry wouldn't meet the bound.
+//! A take never copies the page. One entry that makes one transaction is taken at once; all others
+//! are taken on a trial of the page, which goes back without memory where memory is wanting, so that
+//! no part of a take stays done. What is copied for that are the pending entries and what is untold.
+//! Entries that are in conflict with no pending one are taken as one run, for which the pending ones
+//! are written once. The steps of a take are counted by definition, so one that copied the page
+//! wouldn't meet the bound.
 //!
 //! What it has not told is noted while it changes, in memory that is taken when it begins. So no
 //! call fails for want of it, and a call that fails notes nothing: the notes are made last.

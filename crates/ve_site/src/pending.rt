@@ -1,4 +1,4 @@
-// Pending entries under an entry of another site.
+// Pending entries under an entry of another site, on a trial of the page.
 ghost use Rattle.std.specs.Prelude.{◌≡◌, ◌≤◌, ◌+◌, ◌++◌, All, length, map, take, drop, IfOk, OnOk};
 ghost use Rattle.model_change.specs.Replay.{flattened};
 ghost use Rattle.model_site.specs.Entries.{all_reverted};
@@ -14,94 +14,96 @@ use crate::untold::Untold;
 use std::alloc::Global;
 use std::sync::ledger::Ledger;
 use ve_base::{Memory, Steps};
-use ve_editor::Editor;
+use ve_editor::Trial;
 use ve_rebase::entry_in;
 use ve_tx::{Entry, EntryList, Parcel};
 
 /// Takes back all entries but the first so many, the last one first. An `Err` may leave some of
 /// them taken back.
 fn take_back<L: Ledger>(
-    editor: &mut Editor,
+    trial: &mut Trial,
     sent: &[Entry],
     unsent: &[Entry],
     count: usize,
     left: usize,
     steps: &mut Steps<L>,
 ) -> Result<(), Memory>
-    requires stack { IsStack (replica_of editor.old) (sent.now ++ unsent.now) }
+    requires stack { IsStack (replica_of trial.old.page) (sent.now ++ unsent.now) }
     requires count { count ≡ length (sent.now ++ unsent.now) }
     requires left { left ≤ count }
     ensures dropped { OnOk result (
-        AreDropped (replica_of editor.old) (take left (sent.now ++ unsent.now))
-        (drop left (sent.now ++ unsent.now)) (replica_of editor.new)) }
+        AreDropped (replica_of trial.old.page) (take left (sent.now ++ unsent.now))
+        (drop left (sent.now ++ unsent.now)) (replica_of trial.new.page)) }
+    ensures first { trial.new.first ≡ trial.old.first }
     ensures counted { steps.old ≤ steps.new }
     ensures steps { steps.new
         ≤ steps.old
-        + cost_of_transactions (back_over editor.old.store (drop left (sent.now ++ unsent.now)))
-        editor.old.items }
+        + cost_of_transactions (back_over trial.old.page.store (drop left (sent.now ++ unsent.now)))
+        trial.old.page.items }
 {
     let mut at = count;
     while at > left {
         at -= 1;
-        editor.revert_in_place(entry_in(sent, unsent, at), steps)?;
+        trial.revert(entry_in(sent, unsent, at), steps)?;
     }
     Ok(())
 }
 
 /// Takes back all entries but the first so many, and performs a parcel then. It gives how many
-/// values the store has after that. It makes no copy, so an `Err` may leave a part of it done.
+/// values the store has after that. An `Err` may leave a part of it done.
 pub fn admit_under<L: Ledger>(
-    editor: &mut Editor,
+    trial: &mut Trial,
     sent: &[Entry],
     unsent: &[Entry],
     left: usize,
     committed: &Parcel,
     steps: &mut Steps<L>,
 ) -> Result<usize, Memory>
-    requires stack { IsStack (replica_of editor.old) (sent.now ++ unsent.now) }
+    requires stack { IsStack (replica_of trial.old.page) (sent.now ++ unsent.now) }
     requires left { left ≤ length (sent.now ++ unsent.now) }
     requires cites { ParcelCites committed.now }
     requires stands { AllStand (parcel_by_value committed.now)
-        (all_reverted (map (entry_by_value editor.old.store) (drop left (sent.now ++ unsent.now)))
-        (replica_of editor.old)).items }
+        (all_reverted (map (entry_by_value trial.old.page.store) (drop left (sent.now ++ unsent.now)))
+        (replica_of trial.old.page)).items }
     ensures admitted { OnOk result (
-        IsAdmitted (replica_of editor.old) (sent.now ++ unsent.now) left
-        (parcel_by_value committed.now) (replica_of editor.new)) }
-    ensures stored { IfOk result (λ stored. stored ≡ length editor.new.store) }
+        IsAdmitted (replica_of trial.old.page) (sent.now ++ unsent.now) left
+        (parcel_by_value committed.now) (replica_of trial.new.page)) }
+    ensures stored { IfOk result (λ stored. stored ≡ length trial.new.page.store) }
+    ensures first { trial.new.first ≡ trial.old.first }
     ensures counted { steps.old ≤ steps.new }
     ensures steps { steps.new
         ≤ steps.old
         + cost_of_transactions (
-        back_over editor.old.store (drop left (sent.now ++ unsent.now))
-        ++ parcel_by_value committed.now) editor.old.items }
+        back_over trial.old.page.store (drop left (sent.now ++ unsent.now))
+        ++ parcel_by_value committed.now) trial.old.page.items }
 {
     let Some(count) = sent.len().checked_add(unsent.len()) else {
         return Err(Memory);
     };
-    take_back(editor, sent, unsent, count, left, steps)?;
-    let last = editor.admit_in_place(committed, steps)?;
+    take_back(trial, sent, unsent, count, left, steps)?;
+    let last = trial.admit(committed, steps)?;
     Ok(last.store_after)
 }
 
-/// Performs parcels, one after the other. It makes no copy, so an `Err` may leave some of them
-/// performed.
+/// Performs parcels, one after the other. An `Err` may leave some of them performed.
 pub fn admit_each<L: Ledger>(
-    editor: &mut Editor,
+    trial: &mut Trial,
     parcels: &[Parcel],
     steps: &mut Steps<L>,
 ) -> Result<(), Memory>
     requires cite { All ParcelCites parcels.now }
-    requires stand { AllStand (flattened (map parcel_by_value parcels.now)) editor.old.items }
+    requires stand { AllStand (flattened (map parcel_by_value parcels.now)) trial.old.page.items }
     ensures page { OnOk result (
-        replica_of editor.new
-        ≡ all_performed (flattened (map parcel_by_value parcels.now)) (replica_of editor.old)) }
+        replica_of trial.new.page
+        ≡ all_performed (flattened (map parcel_by_value parcels.now)) (replica_of trial.old.page)) }
+    ensures first { trial.new.first ≡ trial.old.first }
     ensures counted { steps.old ≤ steps.new }
     ensures steps { steps.new
         ≤ steps.old
-        + cost_of_transactions (flattened (map parcel_by_value parcels.now)) editor.old.items }
+        + cost_of_transactions (flattened (map parcel_by_value parcels.now)) trial.old.page.items }
 {
     for parcel in parcels {
-        editor.admit_in_place(parcel, steps)?;
+        trial.admit(parcel, steps)?;
     }
     Ok(())
 }

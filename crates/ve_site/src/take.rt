@@ -5,21 +5,22 @@ ghost use Rattle.model_site.specs.Session.{site_after, taken_as};
 ghost use Rattle.model_site.specs.Site.{pending};
 ghost use Rattle.model_site.specs.Take.{take_ack, take_foreign};
 ghost use Rattle.model_change.specs.Cost.{cost_of_transactions};
+ghost use Rattle.ve_editor.specs.Counted.{steps_of_blank};
 ghost use Rattle.ve_server.specs.Fed.{feed_of};
 ghost use Rattle.ve_site.specs.Ground.{ground_of};
 ghost use Rattle.ve_site.specs.Numbered.{with_site};
 ghost use Rattle.model_site.specs.Made.{taking_all, taking_one};
 ghost use Rattle.ve_site.specs.Taking.{MayTake, steps_of_feed, steps_of_take};
-ghost use Rattle.ve_site.specs.Underway.{AreTakenInPlace, IsTakenInPlace, IsTaking, taking_site};
-ghost use Rattle.model_items.specs.Cost.{cost_of_tree};
+ghost use Rattle.ve_site.specs.Underway.{AreTakenInPlace, IsTakenInPlace};
 ghost use Rattle.ve_tx.specs.ByValue.{parcel_by_value, ParcelCites};
 
 use crate::Site;
 use crate::pending::{parted, renumbered};
-use crate::taking::Taking;
+use crate::taking::{Rest, taken_on_trial};
 use model_site::Taken;
 use std::sync::ledger::Ledger;
 use ve_base::{Memory, Steps};
+use ve_editor::Editor;
 use ve_rebase::{EntriesUnder, entries_under};
 use ve_server::{Feed, Parcels};
 use ve_tx::{EntryList, Parcel};
@@ -35,9 +36,9 @@ impl Site {
         }
     }
 
-    /// Takes an entry of another site in place, where it makes at most one transaction, and gives
-    /// how many entries are still pending. It is `None` where the entry makes more, and nothing
-    /// changes then: a copy of the page has to be made first. An `Err` changes nothing.
+    /// Takes an entry of another site without a trial, where it makes at most one transaction, and
+    /// gives how many entries are still pending. It is `None` where the entry makes more, and
+    /// nothing changes then: these have to be made on a trial. An `Err` changes nothing.
     fn take_single<L: Ledger>(
         &mut self,
         foreign: &Parcel,
@@ -84,9 +85,9 @@ impl Site {
         Ok(Some(left))
     }
 
-    /// Takes entries of other sites in place, where no copy of the page has to be made first, and
-    /// gives how many entries are still pending. Where one has, it is `None`, and nothing changes.
-    /// An `Err` changes nothing.
+    /// Takes entries of other sites without a trial, where there is at most one and it makes at most
+    /// one transaction, and gives how many entries are still pending. Else it is `None`, and nothing
+    /// changes. An `Err` changes nothing.
     fn take_in_place<L: Ledger>(
         &mut self,
         parcels: &[Parcel],
@@ -114,34 +115,9 @@ impl Site {
         self.take_single(&parcels[0], steps)
     }
 
-    /// A copy that took entries of other sites takes the place of the site.
-    fn replace_with(&mut self, taking: Taking)
-        requires { IsTaking taking }
-        ensures { self.new ≡ with_site (taking_site taking) self.old }
-    {
-        let Taking {
-            editor,
-            untold,
-            seen,
-            sent,
-            unsent,
-            shared,
-            in_flight,
-            ..
-        } = taking;
-        self.editor = editor;
-        self.untold = untold;
-        self.seen = seen;
-        self.sent = sent;
-        let _gone = self.history.replace_done(unsent);
-        self.history.clear_undone();
-        self.shared = shared;
-        self.in_flight = in_flight;
-    }
-
-    /// Takes entries of other sites, one after the other, on a copy, which takes the place of its
-    /// own then. It gives how many entries are still pending. An `Err` changes nothing.
-    fn take_on_copy<L: Ledger>(
+    /// Takes entries of other sites, one after the other, on a trial of the page, and gives how many
+    /// entries are still pending. An `Err` changes nothing: what was made until then is taken back.
+    fn take_on_trial<L: Ledger>(
         &mut self,
         parcels: &[Parcel],
         steps: &mut Steps<L>,
@@ -157,14 +133,32 @@ impl Site {
         ensures counted { steps.old ≤ steps.new }
         ensures steps { steps.new
             ≤ steps.old
-            + (cost_of_tree self.old.site.replica.items
+            + (steps_of_blank
             + cost_of_transactions (taking_all (map parcel_by_value parcels.now) self.old.site)
             self.old.site.replica.items) }
     {
-        let mut taking = Taking::of(self, steps)?;
-        taking.take_all(parcels, steps)?;
-        let left = taking.pending_len()?;
-        self.replace_with(taking);
+        let own = Rest::of(self)?;
+        let blank = Editor::blank(self.alloc, steps)?;
+        let editor = std::mem::replace(&mut self.editor, blank);
+        let (editor, taken) = taken_on_trial(editor, own, parcels, steps);
+        self.editor = editor;
+        let (rest, left) = taken?;
+        let Rest {
+            untold,
+            seen,
+            sent,
+            unsent,
+            shared,
+            in_flight,
+            ..
+        } = rest;
+        self.untold = untold;
+        self.seen = seen;
+        self.sent = sent;
+        let _gone = self.history.replace_done(unsent);
+        self.history.clear_undone();
+        self.shared = shared;
+        self.in_flight = in_flight;
         Ok(left)
     }
 
@@ -187,7 +181,7 @@ impl Site {
         if let Some(left) = self.take_in_place(parcels, steps)? {
             return Ok(left);
         }
-        self.take_on_copy(parcels, steps)
+        self.take_on_trial(parcels, steps)
     }
 
     /// Takes the answer to what it sent: the entries that it still holds as sent are committed. An

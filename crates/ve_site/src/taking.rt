@@ -1,14 +1,14 @@
-// Entries of other sites taken on a copy, which takes the place of the site's own then.
-ghost use Rattle.std.specs.Prelude.{◌≡◌, ◌≤◌, ◌<◌, ◌+◌, [], All, length, map, take, IfOk, OnOk};
+// Entries of other sites taken on a trial of the page: all of them, or none.
+ghost use Rattle.std.specs.Prelude.{◌≡◌, ◌≤◌, ◌<◌, ◌+◌, All, length, map, take, IfOk, OnOk, OnErr};
 ghost use Rattle.model_change.specs.Replay.{AllRun, flattened};
 ghost use Rattle.model_site.specs.Site.{pending};
 ghost use Rattle.model_site.specs.Take.{take_entry, take_foreign};
-ghost use Rattle.model_items.specs.Cost.{cost_of_tree};
 ghost use Rattle.ve_tx.specs.ByValue.{parcel_by_value, ParcelCites};
 ghost use Rattle.model_change.specs.Cost.{cost_of_transactions};
+ghost use Rattle.ve_editor.specs.Page.{replica_of};
 ghost use Rattle.ve_site.specs.Ground.{ground_of};
 ghost use Rattle.model_site.specs.Made.{taking_all, taking_one};
-ghost use Rattle.ve_site.specs.Underway.{HaveTaken, IsTaking, taking_site, with_none_undone};
+ghost use Rattle.ve_site.specs.Underway.{HaveTaken, IsRest, IsTaking, rest_site, taking_site, with_none_undone};
 
 use crate::Site;
 use crate::pending::{admit_each, admit_under, note_dropped, parted, renumbered};
@@ -16,15 +16,13 @@ use crate::untold::Untold;
 use std::alloc::Global;
 use std::sync::ledger::Ledger;
 use ve_base::{Memory, Steps};
-use ve_editor::Editor;
+use ve_editor::{Editor, Trial};
 use ve_rebase::{EntriesUnder, EntriesUnderAll, entries_under, entries_under_all};
 use ve_tx::{Entry, EntryList, Parcel};
 
-/// A copy of a site while it takes entries of other sites. Want of memory may leave it half way,
-/// and the site as it was.
+/// What a site has besides its page, with nothing undone.
 #[derive(Drop)]
-pub struct Taking {
-    pub editor: Editor,
+pub struct Rest {
     pub untold: Untold,
     pub seen: usize,
     pub sent: Vec<Entry>,
@@ -34,22 +32,17 @@ pub struct Taking {
     alloc: Global,
 }
 
-impl Taking {
-    /// A copy of a site, with nothing undone. Both have the blocks of the list in common.
-    pub fn of<L: Ledger>(site: &mut Site, steps: &mut Steps<L>) -> Result<Taking, Memory>
-        ensures kept { site.new ≡ site.old }
-        ensures site { IfOk result (λ taking.
-            taking_site taking ≡ with_none_undone site.old.site) }
-        ensures is { IfOk result IsTaking }
-        ensures counted { steps.old ≤ steps.new }
-        ensures steps { steps.new ≤ steps.old + cost_of_tree site.old.site.replica.items }
+impl Rest {
+    /// A copy of what a site has besides its page, with nothing undone.
+    pub fn of(site: &Site) -> Result<Rest, Memory>
+        ensures site { IfOk result (λ rest.
+            rest_site site.now.site.replica rest ≡ with_none_undone site.now.site) }
+        ensures is { IfOk result (IsRest site.now.site.replica) }
     {
         let sent = EntryList::copy_of(site.alloc, site.sent.as_slice())?;
         let unsent = EntryList::copy_of(site.alloc, site.history.done())?;
         let untold = site.untold.copy(site.alloc)?;
-        let editor = site.editor.share(steps)?;
-        Ok(Taking {
-            editor,
+        Ok(Rest {
             untold,
             seen: site.seen,
             sent: sent.into_vec(),
@@ -59,12 +52,22 @@ impl Taking {
             alloc: site.alloc,
         })
     }
+}
 
+/// A site while it takes entries of other sites on a trial of its page. Want of memory may leave it
+/// half way, and the trial then goes back.
+#[derive(Drop)]
+pub struct Taking {
+    pub trial: Trial,
+    pub rest: Rest,
+}
+
+impl Taking {
     /// How many entries it has pending.
-    pub fn pending_len(&self) -> Result<usize, Memory>
+    fn pending_len(&self) -> Result<usize, Memory>
         ensures { IfOk result (λ count. count ≡ length (pending (taking_site self.now))) }
     {
-        match self.sent.len().checked_add(self.unsent.as_slice().len()) {
+        match self.rest.sent.len().checked_add(self.rest.unsent.as_slice().len()) {
             Some(count) => Ok(count),
             None => Err(Memory),
         }
@@ -82,37 +85,38 @@ impl Taking {
         requires run { AllRun (flattened (map parcel_by_value parcels.now))
             (ground_of (taking_site self.old)) }
         ensures taken { IfOk result (λ count. HaveTaken parcels.now self.old count self.new) }
+        ensures first { self.new.trial.first ≡ self.old.trial.first }
         ensures counted { steps.old ≤ steps.new }
         ensures steps { IfOk result (λ count.
             steps.new
             ≤ steps.old
             + cost_of_transactions (
             taking_all (map parcel_by_value (take count parcels.now)) (taking_site self.old))
-            self.old.editor.items) }
+            self.old.trial.page.items) }
         ensures within { steps.new
             ≤ steps.old
             + cost_of_transactions (taking_all (map parcel_by_value parcels.now) (taking_site self.old))
-            self.old.editor.items }
+            self.old.trial.page.items }
     {
-        let own_sent = self.sent.as_slice();
-        let own_unsent = self.unsent.as_slice();
+        let own_sent = self.rest.sent.as_slice();
+        let own_unsent = self.rest.unsent.as_slice();
         let EntriesUnderAll { committed, kept } = entries_under_all(
-            self.alloc, parcels, own_sent, own_unsent,
+            self.rest.alloc, parcels, own_sent, own_unsent,
         )?;
         let count = committed.as_slice().len();
         if count == 0 {
             return Ok(0);
         }
-        let Some(seen) = self.seen.checked_add(count) else {
+        let Some(seen) = self.rest.seen.checked_add(count) else {
             return Err(Memory);
         };
-        let (sent, unsent) = parted(self.alloc, kept, own_sent.len())?;
-        admit_each(&mut self.editor, committed.as_slice(), steps)?;
-        self.untold.note_parcels(committed.as_slice());
-        let stored = self.editor.doc().store.len();
-        self.seen = seen;
-        self.sent = renumbered(sent, stored);
-        self.unsent = EntryList::from_vec(renumbered(unsent, stored));
+        let (sent, unsent) = parted(self.rest.alloc, kept, own_sent.len())?;
+        admit_each(&mut self.trial, committed.as_slice(), steps)?;
+        self.rest.untold.note_parcels(committed.as_slice());
+        let stored = self.trial.doc().store.len();
+        self.rest.seen = seen;
+        self.rest.sent = renumbered(sent, stored);
+        self.rest.unsent = EntryList::from_vec(renumbered(unsent, stored));
         Ok(count)
     }
 
@@ -126,35 +130,36 @@ impl Taking {
             taking_site self.new
             ≡ take_entry (parcel_by_value foreign.now) (taking_site self.old)) }
         ensures is { OnOk result (IsTaking self.new) }
+        ensures first { self.new.trial.first ≡ self.old.trial.first }
         ensures counted { steps.old ≤ steps.new }
         ensures steps { steps.new
             ≤ steps.old
             + cost_of_transactions (taking_one (parcel_by_value foreign.now) (taking_site self.old))
-            self.old.editor.items }
+            self.old.trial.page.items }
     {
-        let Some(seen) = self.seen.checked_add(1) else {
+        let Some(seen) = self.rest.seen.checked_add(1) else {
             return Err(Memory);
         };
-        let own_sent = self.sent.as_slice();
-        let own_unsent = self.unsent.as_slice();
+        let own_sent = self.rest.sent.as_slice();
+        let own_unsent = self.rest.unsent.as_slice();
         let EntriesUnder { committed, kept } = entries_under(
-            self.alloc, foreign, own_sent, own_unsent,
+            self.rest.alloc, foreign, own_sent, own_unsent,
         )?;
         let left = kept.as_slice().len();
-        let (sent, unsent) = parted(self.alloc, kept, own_sent.len())?;
+        let (sent, unsent) = parted(self.rest.alloc, kept, own_sent.len())?;
         let stored = admit_under(
-            &mut self.editor,
+            &mut self.trial,
             own_sent,
             own_unsent,
             left,
             &committed,
             steps,
         )?;
-        note_dropped(&mut self.untold, own_sent, own_unsent, left);
-        self.untold.note(committed.entry.txs.as_slice());
-        self.seen = seen;
-        self.sent = renumbered(sent, stored);
-        self.unsent = EntryList::from_vec(renumbered(unsent, stored));
+        note_dropped(&mut self.rest.untold, own_sent, own_unsent, left);
+        self.rest.untold.note(committed.entry.txs.as_slice());
+        self.rest.seen = seen;
+        self.rest.sent = renumbered(sent, stored);
+        self.rest.unsent = EntryList::from_vec(renumbered(unsent, stored));
         Ok(())
     }
 
@@ -172,17 +177,18 @@ impl Taking {
         requires some { 0 < length parcels.now }
         ensures taken { IfOk result (λ count. HaveTaken parcels.now self.old count self.new) }
         ensures some { IfOk result (λ count. 0 < count) }
+        ensures first { self.new.trial.first ≡ self.old.trial.first }
         ensures counted { steps.old ≤ steps.new }
         ensures steps { IfOk result (λ count.
             steps.new
             ≤ steps.old
             + cost_of_transactions (
             taking_all (map parcel_by_value (take count parcels.now)) (taking_site self.old))
-            self.old.editor.items) }
+            self.old.trial.page.items) }
         ensures within { steps.new
             ≤ steps.old
             + cost_of_transactions (taking_all (map parcel_by_value parcels.now) (taking_site self.old))
-            self.old.editor.items }
+            self.old.trial.page.items }
     {
         let count = self.take_front(parcels, steps)?;
         if count == parcels.len() {
@@ -192,12 +198,12 @@ impl Taking {
         Ok(count + 1)
     }
 
-    /// Takes all entries, one after the other.
-    pub fn take_all<L: Ledger>(
+    /// Takes all entries, one after the other, and gives how many are pending then.
+    fn take_all<L: Ledger>(
         &mut self,
         parcels: &[Parcel],
         steps: &mut Steps<L>,
-    ) -> Result<(), Memory>
+    ) -> Result<usize, Memory>
         requires is { IsTaking self.old }
         requires cite { All ParcelCites parcels.now }
         requires run { AllRun (flattened (map parcel_by_value parcels.now))
@@ -206,16 +212,64 @@ impl Taking {
             taking_site self.new
             ≡ take_foreign (map parcel_by_value parcels.now) (taking_site self.old)) }
         ensures is { OnOk result (IsTaking self.new) }
+        ensures left { IfOk result (λ left. left ≡ length (pending (taking_site self.new))) }
+        ensures first { self.new.trial.first ≡ self.old.trial.first }
         ensures counted { steps.old ≤ steps.new }
         ensures steps { steps.new
             ≤ steps.old
             + cost_of_transactions (taking_all (map parcel_by_value parcels.now) (taking_site self.old))
-            self.old.editor.items }
+            self.old.trial.page.items }
     {
         let mut at = 0;
         while at < parcels.len() {
             at += self.take_some(&parcels[at..], steps)?;
         }
-        Ok(())
+        self.pending_len()
+    }
+}
+
+/// The page after entries of other sites, one after the other, and what a site has besides it then,
+/// with how many of its entries are pending. Where memory is wanting it is the page as it was.
+pub fn taken_on_trial<L: Ledger>(
+    editor: Editor,
+    rest: Rest,
+    parcels: &[Parcel],
+    steps: &mut Steps<L>,
+) -> (Editor, Result<(Rest, usize), Memory>)
+    requires is { IsRest (replica_of editor) rest }
+    requires cite { All ParcelCites parcels.now }
+    requires run { AllRun (flattened (map parcel_by_value parcels.now))
+        (ground_of (rest_site (replica_of editor) rest)) }
+    ensures site { IfOk result.1 (λ taken.
+        rest_site (replica_of result.0) taken.0
+        ≡ take_foreign (map parcel_by_value parcels.now) (rest_site (replica_of editor) rest)) }
+    ensures is { IfOk result.1 (λ taken. IsRest (replica_of result.0) taken.0) }
+    ensures left { IfOk result.1 (λ taken.
+        taken.1 ≡ length (pending (rest_site (replica_of result.0) taken.0))) }
+    ensures kept { OnErr result.1 (result.0 ≡ editor) }
+    ensures counted { steps.old ≤ steps.new }
+    ensures steps { steps.new
+        ≤ steps.old
+        + cost_of_transactions (
+        taking_all (map parcel_by_value parcels.now) (rest_site (replica_of editor) rest))
+        editor.items }
+{
+    match Trial::begin(editor) {
+        Ok(trial) => {
+            let mut taking = Taking {
+                trial,
+                rest,
+            };
+            let taken = taking.take_all(parcels, steps);
+            let Taking {
+                trial,
+                rest,
+            } = taking;
+            match taken {
+                Ok(left) => (trial.keep(), Ok((rest, left))),
+                Err(Memory) => (trial.take_back(), Err(Memory)),
+            }
+        }
+        Err(editor) => (editor, Err(Memory)),
     }
 }

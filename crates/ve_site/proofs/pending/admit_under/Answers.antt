@@ -17,27 +17,33 @@ pub take_back-requires-clause-left : goal.take_back-requires-clause-left
 take_back-requires-clause-left g c =
     let size = length-append c.args.sent.now c.args.unsent.now in omega (arith, size, c.in-Some.ensures.1, c.requires.left)
 
-pub admit_in_place-requires-clause-stands : goal.admit_in_place-requires-clause-stands
-admit_in_place-requires-clause-stands g c =
+pub admit-requires-clause-stands : goal.admit-requires-clause-stands
+admit-requires-clause-stands g c =
     subst (λ (r : Replica). AllStand (parcel_by_value c.args.committed.now) r.items) (sym c.in_ok-take_back.ensures.dropped.page) c.requires.stands
 
 pub returns-clause-admitted : goal.returns-clause-admitted
-returns-clause-admitted g c = record { middle = replica_of c.take_back.new.editor; dropped = c.in_ok-take_back.ensures.dropped; page = c.in_ok-last.ensures.page }
+returns-clause-admitted g c = record { middle = replica_of c.take_back.new.trial.page; dropped = c.in_ok-take_back.ensures.dropped; page = c.in_ok-last.ensures.page }
 
 pub returns-clause-stored : goal.returns-clause-stored
 returns-clause-stored g c = ap (λ (e : ModelEntry). e.store_after) c.in_ok-last.ensures.entry ∙ ap (λ (r : Replica). length r.store) (sym c.in_ok-last.ensures.page)
 
 pub returns-in_err-take_back-clause-steps : goal.returns-in_err-take_back-clause-steps
 returns-in_err-take_back-clause-steps g c =
-    back_counts (back_over c.args.editor.now.store (drop c.args.left (c.args.sent.now ++ c.args.unsent.now))) (parcel_by_value c.args.committed.now) c.args.editor.now.items c.args.steps.now
+    back_counts (back_over c.args.trial.now.page.store (drop c.args.left (c.args.sent.now ++ c.args.unsent.now))) (parcel_by_value c.args.committed.now) c.args.trial.now.page.items c.args.steps.now
     c.take_back.new.steps c.take_back.ensures.steps
 
 pub returns-in_err-last-clause-steps : goal.returns-in_err-last-clause-steps
 returns-in_err-last-clause-steps g c =
-    admit_counts (replica_of c.args.editor.now) (replica_of c.take_back.new.editor) _ _ (parcel_by_value c.args.committed.now) c.in_ok-take_back.ensures.dropped c.args.steps.now c.take_back.new.steps
-    c.admit_in_place.new.steps c.take_back.ensures.steps c.admit_in_place.ensures.steps
+    admit_counts (replica_of c.args.trial.now.page) (replica_of c.take_back.new.trial.page) _ _ (parcel_by_value c.args.committed.now) c.in_ok-take_back.ensures.dropped c.args.steps.now c.take_back.new.steps
+    c.admit.new.steps c.take_back.ensures.steps c.admit.ensures.steps
 
 pub returns-clause-steps : goal.returns-clause-steps
 returns-clause-steps g c =
-    admit_counts (replica_of c.args.editor.now) (replica_of c.take_back.new.editor) _ _ (parcel_by_value c.args.committed.now) c.in_ok-take_back.ensures.dropped c.args.steps.now c.take_back.new.steps
-    c.admit_in_place.new.steps c.take_back.ensures.steps c.admit_in_place.ensures.steps
+    admit_counts (replica_of c.args.trial.now.page) (replica_of c.take_back.new.trial.page) _ _ (parcel_by_value c.args.committed.now) c.in_ok-take_back.ensures.dropped c.args.steps.now c.take_back.new.steps
+    c.admit.new.steps c.take_back.ensures.steps c.admit.ensures.steps
+
+pub returns-in_err-last-clause-first : goal.returns-in_err-last-clause-first
+returns-in_err-last-clause-first g c = c.admit.ensures.first ∙ c.take_back.ensures.first
+
+pub returns-clause-first : goal.returns-clause-first
+returns-clause-first g c = c.admit.ensures.first ∙ c.take_back.ensures.first

@@ -5,7 +5,7 @@ use Rattle.ve_tx.specs.ByValue.{parcel_by_value}
 use Rattle.ve_editor.specs.Page.{replica_of}
 use Rattle.ve_site.specs.Underway.{AreTakenInPlace, IsTakenInPlace}
 use Rattle.ve_site.proofs.InPlaceLemmas.{just_one, one_counts, one_taken}
-use Rattle.ve_site.proofs.SeveralLemmas.{several_make_copy}
+use Rattle.ve_site.proofs.SeveralLemmas.{several_take_trial}
 use Rattle.ve_site.proofs.TakeLemmas.{copied_is}
 use Rattle.ve_site.proofs.site.Site.take_in_place.Goals as goal
 
@@ -18,7 +18,7 @@ invariant_of-self g c =
 pub returns-then-parcels-gt1-clause-taken : goal.returns-then-parcels-gt1-clause-taken
 returns-then-parcels-gt1-clause-taken g c =
     let all = length-map c.args.parcels.now parcel_by_value in
-    (refl, several_make_copy (map parcel_by_value c.args.parcels.now) c.args.self.now.site (omega (arith, all, c.if-parcels-gt1.true)))
+    (refl, several_take_trial (map parcel_by_value c.args.parcels.now) c.args.self.now.site (omega (arith, all, c.if-parcels-gt1.true)))
 
 pub returns-clause-taken : goal.returns-clause-taken
 returns-clause-taken g c =
