@@ -15,8 +15,8 @@ use Rattle.ve_editor.proofs.trial.Trial.cut_back.Goals as goal
 pub keep-requires : goal.keep-requires
 keep-requires c = c.self.invariant.1.stored
 
-pub invariant_of-self : goal.invariant_of-self
-invariant_of-self c =
+pub invariant_of-self-then-entry : goal.invariant_of-self-then-entry
+invariant_of-self-then-entry c =
     let n = c.args.entry.now.store_before in
     let t = c.self.inside in
     let kept = subst (λ (r : Tried). (v : Value) → Contains (cited r.page.items) v → Contains (take n r.page.store) v) (sym c.self.view_is) (c.requires.uncited c.if-was-entry.true c.if-entry.true) in
@@ -27,8 +27,8 @@ invariant_of-self c =
     (subst (λ s. IsPage s t.list.items t.tree) (sym c.truncate.ensures) (record { cites = cut.0; tree = c.self.invariant.0.tree }),
     cut_goes_back t.store c.truncate.new.self t.list t.back t.values c.keep.new.self t.tree c.self.invariant.1 has same)
 
-pub returns-then-entry-clause-page : goal.returns-then-entry-clause-page
-returns-then-entry-clause-page c =
+pub returns-in_ok-keep-clause-page : goal.returns-in_ok-keep-clause-page
+returns-in_ok-keep-clause-page c =
     let n = c.args.entry.now.store_before in
     let L = c.self.inside.list.items in
     let kept = subst (λ (r : Tried). (v : Value) → Contains (cited r.page.items) v → Contains (take n r.page.store) v) (sym c.self.view_is) (c.requires.uncited c.if-was-entry.true c.if-entry.true) in
@@ -44,8 +44,8 @@ returns-then-entry-clause-page c =
     let nodes = ap (λ (r : Tried). r.page.nodes) c.self.view_is in
     λ i. record { items = items i; store = store i; selection = selection i; nodes = nodes i }
 
-pub returns-then-entry-clause-first : goal.returns-then-entry-clause-first
-returns-then-entry-clause-first c =
+pub returns-in_ok-keep-clause-first : goal.returns-in_ok-keep-clause-first
+returns-in_ok-keep-clause-first c =
     let t = c.self.inside in
     let same = ap (λ s. first_values s c.keep.new.self) c.truncate.ensures ∙ c.in_ok-keep.ensures.first in
     ap (λ s. linked_page (page_of s (spliced_by t.list.items t.back) t.first_selection) (first_nodes t.tree)) same ∙ ap (λ (r : Tried). r.first) c.self.view_is

@@ -1,4 +1,5 @@
 use Rattle.std.proofs.Common.{◌≡◌, ◌≤◌, ◌+◌, length, sym, ap, ◌∙◌, subst}
+use Rattle.std.proofs.lemmas.Result.{on_ok_weaker}
 use Rattle.model_items.specs.Plain.{AreDistinct}
 use Rattle.model_site.specs.Entries.{cut_back}
 use Rattle.model_site.specs.Replica.{Replica, all_put_back}
@@ -41,12 +42,14 @@ returns-clause-page g c =
     let entry = c.args.entry.now in
     let was : c.len-was.result ≡ length r.store = c.len-was.ensures.count ∙ ap (λ (t : Tried). length t.page.store) c.self.view_is in
     let page = c.in_ok-put_all_back.ensures.page ∙ ap (λ l. all_put_back (reversal_over r.store l) (replica_of r)) c.as_slice.ensures in
-    reverted_is (entry_by_value r.store entry) (replica_of r) c.put_all_back.new.target.page c.cut_back.new.self.page c.len-was.result page c.cut_back.ensures.page was
+    on_ok_weaker c.cut_back.result (λ cut. reverted_is (entry_by_value r.store entry) (replica_of r) c.put_all_back.new.target.page c.cut_back.new.self.page c.len-was.result page cut was) c.cut_back.ensures.page
 
 pub returns-clause-numbers : goal.returns-clause-numbers
 returns-clause-numbers g c =
     let r = c.args.self.now.page in
     let entry = c.args.entry.now in
-    let nodes = nodes_stand c.put_all_back.new.target.page c.cut_back.new.self.page (cut_back (entry_by_value r.store entry) c.len-was.result c.put_all_back.new.target.page.store) c.cut_back.ensures.page in
-    subst (NumbersStayOver (reversal_over r.store c.args.entry.now.txs) r.items r.nodes) nodes
-    (subst (λ l. NumbersStayOver (reversal_over r.store l) r.items r.nodes c.put_all_back.new.target.page.nodes) c.as_slice.ensures c.in_ok-put_all_back.ensures.numbers)
+    let made = c.put_all_back.new.target.page in
+    let numbers = subst (λ l. NumbersStayOver (reversal_over r.store l) r.items r.nodes made.nodes) c.as_slice.ensures c.in_ok-put_all_back.ensures.numbers in
+    on_ok_weaker c.cut_back.result
+    (λ cut. subst (NumbersStayOver (reversal_over r.store c.args.entry.now.txs) r.items r.nodes)
+        (nodes_stand made c.cut_back.new.self.page (cut_back (entry_by_value r.store c.args.entry.now) c.len-was.result made.store) cut) numbers) c.cut_back.ensures.page
