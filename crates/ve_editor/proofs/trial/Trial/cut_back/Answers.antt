@@ -23,9 +23,10 @@ invariant_of-self-then-entry c =
     let distinct = subst (λ (r : Tried). AreDistinct r.page.store) (sym c.self.view_is) c.requires.distinct in
     let cut = cut_list t.store n distinct t.list.items c.self.invariant.0.cites kept in
     let has = subst (λ s. HasFirst s c.keep.new.self) (sym c.truncate.ensures) c.in_ok-keep.ensures.has in
-    let same = ap (λ s. first_values s c.keep.new.self) c.truncate.ensures ∙ c.in_ok-keep.ensures.first in
-    (subst (λ s. IsPage s t.list.items t.tree) (sym c.truncate.ensures) (record { cites = cut.0; tree = c.self.invariant.0.tree }),
-    cut_goes_back t.store c.truncate.new.self t.list t.back t.values c.keep.new.self t.tree c.self.invariant.1 has same)
+    let same = ap (λ s. first_values s c.keep.new.self) c.truncate.ensures ∙ c.in_ok-keep.ensures.first in (
+      subst (λ s. IsPage s t.list.items t.tree) (sym c.truncate.ensures) (record { cites = cut.0; tree = c.self.invariant.0.tree }),
+      cut_goes_back t.store c.truncate.new.self t.list t.back t.values c.keep.new.self t.tree c.self.invariant.1 has same,
+    )
 
 pub returns-in_ok-keep-clause-page : goal.returns-in_ok-keep-clause-page
 returns-in_ok-keep-clause-page c =

@@ -52,4 +52,4 @@ returns-clause-numbers g c =
     let numbers = subst (λ l. NumbersStayOver (reversal_over r.store l) r.items r.nodes made.nodes) c.as_slice.ensures c.in_ok-put_all_back.ensures.numbers in
     on_ok_weaker c.cut_back.result
     (λ cut. subst (NumbersStayOver (reversal_over r.store c.args.entry.now.txs) r.items r.nodes)
-        (nodes_stand made c.cut_back.new.self.page (cut_back (entry_by_value r.store c.args.entry.now) c.len-was.result made.store) cut) numbers) c.cut_back.ensures.page
+    (nodes_stand made c.cut_back.new.self.page (cut_back (entry_by_value r.store c.args.entry.now) c.len-was.result made.store) cut) numbers) c.cut_back.ensures.page
