@@ -92,14 +92,13 @@ takes_several feeds = false
 abbrev pub cost_of_blank : ℕ
 cost_of_blank = 8
 
--- A batch, and a text that is typed over a selection, are made in place; a page without text stands
--- there meanwhile. What else makes several transactions is made on a copy of the page, as is a feed
--- of several entries.
+-- A batch, a text that is typed over a selection, a feed of several entries and what else makes
+-- several transactions are made on a trial of the page; a page without text stands there meanwhile.
 abbrev pub cost_besides : Request → Member → List Transaction → ℕ
 cost_besides (request.Batch cmds) m ts = cost_of_blank
 cost_besides (request.TypeText text) m ts = if is_collapsed m.site.replica.selection then 0 else cost_of_blank
-cost_besides request.Take m ts = if takes_several m.feeds || nat_le 2 (length ts) then cost_of_tree m.site.replica.items else 0
-cost_besides _ m ts = if nat_le 2 (length ts) then cost_of_tree m.site.replica.items else 0
+cost_besides request.Take m ts = if takes_several m.feeds || nat_le 2 (length ts) then cost_of_blank else 0
+cost_besides _ m ts = if nat_le 2 (length ts) then cost_of_blank else 0
 
 -- ---- a line
 

@@ -7,7 +7,7 @@ use Rattle.model_items.specs.declared.plain_item.PlainItem.{PlainItem}
 use Rattle.model_items.specs.declared.plain_item.PlainItem.TheVariants.{Char, Closing, Opening}
 use Rattle.model_change.specs.Transaction.{Replace, Retain, Transaction}
 use Rattle.model_change.specs.Cost.{cost_of_transaction, cost_of_transactions}
-use Rattle.ve_editor.specs.Counted.{steps_of_copy, steps_over}
+use Rattle.ve_editor.specs.Counted.{steps_besides, steps_over}
 
 abbrev head : Head
 head = record { tag = []; attrs = []; raw = []; reference = None; owner = false }
@@ -28,20 +28,20 @@ erasing = Retain 1 ∷ Replace letter [] ∷ Retain 1 ∷ []
 one_alone : steps_over (typing ∷ []) empty ≡ 40
 one_alone = refl
 
--- two are made on a copy: its tree has one node beside the root
-two_on_a_copy : steps_over (typing ∷ erasing ∷ []) empty ≡ 24 + (40 + 40)
-two_on_a_copy = refl
+-- two are made on a trial, while a page without text stands there
+two_on_a_trial : steps_over (typing ∷ erasing ∷ []) empty ≡ 8 + (40 + 40)
+two_on_a_trial = refl
 
--- where none is made nothing is copied
+-- where none is made nothing is counted
 none_counts_nothing : steps_over [] empty ≡ 0
 none_counts_nothing = refl
 
--- without the copy
+-- without that page
 only_transactions : cost_of_transactions (typing ∷ erasing ∷ []) empty ≡ 40 + 40
 only_transactions = refl
 
-no_copy_for_one : steps_of_copy (erasing ∷ []) empty ≡ 0
-no_copy_for_one = refl
+nothing_besides_one : steps_besides (erasing ∷ []) ≡ 0
+nothing_besides_one = refl
 
 -- a paragraph before it is not touched
 abbrev typing_below : Transaction

@@ -5,10 +5,8 @@ use Rattle.model_items.specs.declared.plain_item.PlainItem.{PlainItem}
 use Rattle.model_change.specs.Transaction.{Transaction, edited}
 use Rattle.model_change.specs.Inverse.{inverse}
 use Rattle.model_change.specs.Replay.{reversal}
-use Rattle.model_items.specs.Tree.{node_count, tree_of}
-use Rattle.model_items.specs.Cost.{cost_of_tree}
 use Rattle.model_change.specs.Cost.{cost_of_transaction, cost_of_transactions}
-use Rattle.ve_editor.specs.Counted.{steps_of_blank, steps_of_copy, steps_over}
+use Rattle.ve_editor.specs.Counted.{steps_besides, steps_of_blank, steps_over}
 
 first_of : (now after all a b : ℕ) → now + (a + b) ≤ all → after ≤ now + a → after ≤ all
 first_of now after all a b h k = omega arith
@@ -22,8 +20,8 @@ more_than after now a b h = omega arith
 and_more : (now after a b : ℕ) → after ≤ now + a → after ≤ now + (a + b)
 and_more now after a b h = omega arith
 
-in_turn : (now copied after a b : ℕ) → copied ≤ now + a → after ≤ copied + b → after ≤ now + (a + b)
-in_turn now copied after a b h k = omega arith
+in_turn : (now begun after a b : ℕ) → begun ≤ now + a → after ≤ begun + b → after ≤ now + (a + b)
+in_turn now begun after a b h k = omega arith
 
 -- The count stands at `now` before a transaction and at `after` past it; `all` bounds it to the
 -- end. The transaction is known under two names.
@@ -39,7 +37,7 @@ module _ (t same : Transaction) (rest : List Transaction) (items : List PlainIte
   left_within_all made e =
       subst (λ l. after + cost_of_transactions rest l ≤ all) (sym e) (first_and now after all (cost_of_transaction t items) (cost_of_transactions rest (edited t items)) bound took_one)
 
--- one transaction alone, without a copy
+-- one transaction alone, with nothing besides
 pub one_within : (t same : Transaction) (ts : List Transaction) (items : List PlainItem) (now after : ℕ) → same ≡ t → ts ≡ t ∷ [] →
     after ≤ now + cost_of_transaction same items → after ≤ now + steps_over ts items
 one_within t same ts items now after is only took =
@@ -50,28 +48,21 @@ one_within t same ts items now after is only took =
 abbrev pub AreSeveral : List Transaction → Type 0
 AreSeveral ts = 2 ≤ length ts
 
-copy_counted : (ts : List Transaction) (items : List PlainItem) → AreSeveral ts → steps_of_copy ts items ≡ cost_of_tree items
-copy_counted [] items several = absurd (omega (arith, several))
-copy_counted (t ∷ []) items several = absurd (omega (arith, several))
-copy_counted (t ∷ u ∷ ts) items several = refl
+blank_counted : (ts : List Transaction) → AreSeveral ts → steps_besides ts ≡ steps_of_blank
+blank_counted [] several = absurd (omega (arith, several))
+blank_counted (t ∷ []) several = absurd (omega (arith, several))
+blank_counted (t ∷ u ∷ ts) several = refl
 
--- a page without text takes no more steps than a copy
-pub blank_within : (items : List PlainItem) (now after : ℕ) → after ≤ now + steps_of_blank → after ≤ now + cost_of_tree items
-blank_within items now after h = by (node_count (tree_of items))
-  where
-    by : (n : ℕ) → after ≤ now + 8 * (n + 2)
-    by n = omega (arith, h)
-
--- a copy, and the transactions on it
-pub copied_within : (ts : List Transaction) (items : List PlainItem) (now copied after : ℕ) → AreSeveral ts → copied ≤ now + cost_of_tree items → after ≤ copied + cost_of_transactions ts items →
+-- a page without text, and the transactions on a trial
+pub tried_within : (ts : List Transaction) (items : List PlainItem) (now begun after : ℕ) → AreSeveral ts → begun ≤ now + steps_of_blank → after ≤ begun + cost_of_transactions ts items →
     after ≤ now + steps_over ts items
-copied_within ts items now copied after several h k =
-    subst (λ n. after ≤ now + (n + cost_of_transactions ts items)) (sym (copy_counted ts items several)) (in_turn now copied after (cost_of_tree items) (cost_of_transactions ts items) h k)
+tried_within ts items now begun after several h k =
+    subst (λ n. after ≤ now + (n + cost_of_transactions ts items)) (sym (blank_counted ts several)) (in_turn now begun after steps_of_blank (cost_of_transactions ts items) h k)
 
--- a copy for which memory is short
-pub copy_within : (ts : List Transaction) (items : List PlainItem) (now after : ℕ) → AreSeveral ts → after ≤ now + cost_of_tree items → after ≤ now + steps_over ts items
-copy_within ts items now after several h =
-    subst (λ n. after ≤ now + (n + cost_of_transactions ts items)) (sym (copy_counted ts items several)) (and_more now after (cost_of_tree items) (cost_of_transactions ts items) h)
+-- a page without text for which memory is short
+pub blank_within : (ts : List Transaction) (items : List PlainItem) (now after : ℕ) → AreSeveral ts → after ≤ now + steps_of_blank → after ≤ now + steps_over ts items
+blank_within ts items now after several h =
+    subst (λ n. after ≤ now + (n + cost_of_transactions ts items)) (sym (blank_counted ts several)) (and_more now after steps_of_blank (cost_of_transactions ts items) h)
 
 -- neither none nor one
 are_two : {A : Type 0} (xs : List A) → (length xs ≡ 0 → ⊥) → (length xs ≡ 1 → ⊥) → 2 ≤ length xs

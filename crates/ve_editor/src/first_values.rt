@@ -46,7 +46,7 @@ impl FirstValues {
     }
 
     /// The store with the values that it had first.
-    pub fn put_back(self, mut store: Store) -> Store
+    pub fn restored(self, mut store: Store) -> Store
         requires { HasFirst store self }
         ensures { result ≡ first_values store self }
     {

@@ -343,7 +343,7 @@ impl Trial {
             first_selection,
         } = self;
         back.put_back(&mut list);
-        let store = values.put_back(store);
+        let store = values.restored(store);
         drop(back);
         tree.take_back();
         Editor {

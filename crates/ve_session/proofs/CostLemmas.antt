@@ -13,17 +13,17 @@ use Rattle.model_world.specs.declared.refusal.Refusal.{Refusal}
 use Rattle.model_world.specs.Edits.{checked_transaction, unless_faulty}
 use Rattle.model_change.specs.Cost.{cost_of_transactions}
 use Rattle.model_items.specs.Cost.{cost_of_tree}
-use Rattle.model_world.specs.Cost.{cost_of_opening, made_of, revoking_seen}
+use Rattle.model_world.specs.Cost.{cost_of_blank, cost_of_opening, made_of, revoking_seen}
 use Rattle.ve_editor.specs.Counted.{steps_over}
 use Rattle.ve_session.specs.Asked.{cost_completed}
 
 -- ---- trees and transactions
 
--- transactions, and a copy of the page where they are made on one
+-- transactions, and a page without text where they are made on a trial
 abbrev pub cost_of_made : Bool → List Transaction → List PlainItem → ℕ
-cost_of_made on_copy ts items = (if on_copy then cost_of_tree items else 0) + cost_of_transactions ts items
+cost_of_made on_trial ts items = (if on_trial then cost_of_blank else 0) + cost_of_transactions ts items
 
--- what is made on a copy only where it is several
+-- what is made on a trial only where it is several
 pub over_within : (ts : List Transaction) (items : List PlainItem) → steps_over ts items ≤ cost_of_made (nat_le 2 (length ts)) ts items
 over_within [] items = omega arith
 over_within (t ∷ []) items = omega arith

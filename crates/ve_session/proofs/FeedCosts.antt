@@ -15,12 +15,12 @@ use Rattle.ve_sites.specs.Turns.{steps_of_next, steps_of_turn}
 use Rattle.ve_session.specs.Asked.{cost_completed}
 use Rattle.ve_session.proofs.CostLemmas.{cost_of_made, over_within}
 
--- whether a turn at these feeds, which makes these transactions, is made on a copy
-abbrev on_copy : List SiteFeed → List Transaction → Bool
-on_copy feeds ts = takes_several feeds || nat_le 2 (length ts)
+-- whether a turn at these feeds, which makes these transactions, is made on a trial
+abbrev on_trial : List SiteFeed → List Transaction → Bool
+on_trial feeds ts = takes_several feeds || nat_le 2 (length ts)
 
 entries_within : (entries : List Parcel) (later : List SiteFeed) (s : Site) → steps_of_take (Foreign entries) s
-    ≤ cost_of_made (on_copy (Foreign entries ∷ later) (taking_all entries s)) (taking_all entries s) s.replica.items
+    ≤ cost_of_made (on_trial (Foreign entries ∷ later) (taking_all entries s)) (taking_all entries s) s.replica.items
 entries_within [] later s = omega arith
 entries_within (one ∷ []) later s =
     subst (λ ts. steps_over (taking_one one s) s.replica.items ≤ cost_of_made (nat_le 2 (length ts)) ts s.replica.items)
@@ -32,7 +32,7 @@ pub take_within : (w : Session) (m : Member) → steps_of_turn m ≤ cost_comple
 take_within w m = by m.feeds
   where
     by : (feeds : List SiteFeed) → steps_of_next feeds m.site
-        ≤ cost_of_made (on_copy feeds (taking feeds m.site)) (taking feeds m.site) m.site.replica.items
+        ≤ cost_of_made (on_trial feeds (taking feeds m.site)) (taking feeds m.site) m.site.replica.items
     by [] = omega arith
     by (Ack accepted ∷ later) = omega arith
     by (Foreign entries ∷ later) = entries_within entries later m.site

@@ -10,7 +10,7 @@ use Rattle.ve_editor.proofs.StayLemmas.{stay_alone, unchanged_moved}
 use Rattle.ve_editor.proofs.BackLemmas.{one_only}
 use Rattle.model_change.specs.Store.{brought}
 use Rattle.model_change.specs.Cost.{cost_of_transactions}
-use Rattle.ve_editor.proofs.CountedLemmas.{blank_within, one_within, copied_within, copy_within, mapped_several}
+use Rattle.ve_editor.proofs.CountedLemmas.{blank_within, one_within, tried_within, mapped_several}
 use Rattle.ve_editor.proofs.editor.Editor.admit_all.Goals as goal
 
 pub perform_other-requires-clause-cites : goal.perform_other-requires-clause-cites
@@ -97,13 +97,13 @@ pub returns-clause-steps : goal.returns-clause-steps
 returns-clause-steps g c =
     let ts = map (by_value c.args.values.now) c.args.txs.now in
     let r = c.args.self.now in
-    copied_within ts r.items c.args.steps.now c.blank.new.steps c.all_others-editor.new.steps (mapped_several (by_value c.args.values.now) c.args.txs.now (eqb-false (length c.args.txs.now) 0 (sym c.is_empty.ensures ∙ c.if-is_empty.false)) c.if-txs-eq1.false)
-    (blank_within r.items c.args.steps.now c.blank.new.steps c.blank.ensures.steps)
+    tried_within ts r.items c.args.steps.now c.blank.new.steps c.all_others-editor.new.steps (mapped_several (by_value c.args.values.now) c.args.txs.now (eqb-false (length c.args.txs.now) 0 (sym c.is_empty.ensures ∙ c.if-is_empty.false)) c.if-txs-eq1.false)
+    c.blank.ensures.steps
     (subst (λ (p : LinkedPage). c.all_others-editor.new.steps ≤ c.blank.new.steps + cost_of_transactions ts p.items) c.replace.ensures.value c.all_others-editor.ensures.steps)
 
 pub returns-in_err-blank-clause-steps : goal.returns-in_err-blank-clause-steps
 returns-in_err-blank-clause-steps g c =
     let r = c.args.self.now in
-    copy_within (map (by_value c.args.values.now) c.args.txs.now) r.items c.args.steps.now c.blank.new.steps
+    blank_within (map (by_value c.args.values.now) c.args.txs.now) r.items c.args.steps.now c.blank.new.steps
     (mapped_several (by_value c.args.values.now) c.args.txs.now (eqb-false (length c.args.txs.now) 0 (sym c.is_empty.ensures ∙ c.if-is_empty.false)) c.if-txs-eq1.false)
-    (blank_within r.items c.args.steps.now c.blank.new.steps c.blank.ensures.steps)
+    c.blank.ensures.steps

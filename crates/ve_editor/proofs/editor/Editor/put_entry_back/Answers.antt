@@ -14,7 +14,7 @@ use Rattle.ve_editor.proofs.BackLemmas.{one_only}
 use Rattle.model_change.specs.Inverse.{inverse}
 use Rattle.model_change.specs.Store.{changed_heads}
 use Rattle.model_change.specs.Cost.{cost_of_transactions}
-use Rattle.ve_editor.proofs.CountedLemmas.{blank_within, one_within, copied_within, copy_within, reversal_several}
+use Rattle.ve_editor.proofs.CountedLemmas.{blank_within, one_within, tried_within, reversal_several}
 use Rattle.ve_editor.proofs.editor.Editor.put_entry_back.Goals as goal
 
 pub put_back-requires-clause-cites : goal.put_back-requires-clause-cites
@@ -90,12 +90,12 @@ returns-clause-kept g c =
 pub returns-clause-steps : goal.returns-clause-steps
 returns-clause-steps g c =
     let r = c.args.self.now in
-    copied_within (reversal_over r.store c.args.txs.now) r.items c.args.steps.now c.blank.new.steps c.all_back-editor.new.steps (reversal_several (by_value r.store) c.args.txs.now (eqb-false (length c.args.txs.now) 0 (sym c.is_empty.ensures ∙ c.if-is_empty.false)) c.if-txs-eq1.false)
-    (blank_within r.items c.args.steps.now c.blank.new.steps c.blank.ensures.steps)
+    tried_within (reversal_over r.store c.args.txs.now) r.items c.args.steps.now c.blank.new.steps c.all_back-editor.new.steps (reversal_several (by_value r.store) c.args.txs.now (eqb-false (length c.args.txs.now) 0 (sym c.is_empty.ensures ∙ c.if-is_empty.false)) c.if-txs-eq1.false)
+    c.blank.ensures.steps
     (subst (λ (p : LinkedPage). c.all_back-editor.new.steps ≤ c.blank.new.steps + cost_of_transactions (reversal_over p.store c.args.txs.now) p.items) c.replace.ensures.value c.all_back-editor.ensures.steps)
 
 pub returns-in_err-blank-clause-steps : goal.returns-in_err-blank-clause-steps
 returns-in_err-blank-clause-steps g c =
     let r = c.args.self.now in
-    copy_within (reversal_over r.store c.args.txs.now) r.items c.args.steps.now c.blank.new.steps (reversal_several (by_value r.store) c.args.txs.now (eqb-false (length c.args.txs.now) 0 (sym c.is_empty.ensures ∙ c.if-is_empty.false)) c.if-txs-eq1.false)
-    (blank_within r.items c.args.steps.now c.blank.new.steps c.blank.ensures.steps)
+    blank_within (reversal_over r.store c.args.txs.now) r.items c.args.steps.now c.blank.new.steps (reversal_several (by_value r.store) c.args.txs.now (eqb-false (length c.args.txs.now) 0 (sym c.is_empty.ensures ∙ c.if-is_empty.false)) c.if-txs-eq1.false)
+    c.blank.ensures.steps

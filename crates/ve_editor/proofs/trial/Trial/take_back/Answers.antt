@@ -13,7 +13,7 @@ take_back-requires c = let t = c.self.inside in record { tree = record { items =
 pub invariant_of-result : goal.invariant_of-result
 invariant_of-result c =
     let t = c.self.inside in (
-      page_back t.store c.truncate.new.self t.list c.put_back.new.list.items t.back t.values t.tree c.take_back.new.self c.self.invariant.1 c.truncate.ensures c.put_back.ensures c.take_back.ensures.tree,
+      page_back t.store c.restored-store.result t.list c.put_back.new.list.items t.back t.values t.tree c.take_back.new.self c.self.invariant.1 c.restored-store.ensures c.put_back.ensures c.take_back.ensures.tree,
       ap (λ (a : ArenaView). a.first) c.take_back.ensures.arena,
     )
 
@@ -22,4 +22,4 @@ returns c =
     let t = c.self.inside in
     let nodes : nodes_of_tree c.take_back.new.self ≡ first_nodes t.tree =
     λ i. record { slots = (c.take_back.ensures.arena i).slots; root = c.take_back.ensures.root i } in
-    (λ i. linked_page (page_of (c.truncate.ensures i) (c.put_back.ensures i) t.first_selection) (nodes i)) ∙ ap (λ (t : Tried). t.first) c.self.view_is
+    (λ i. linked_page (page_of (c.restored-store.ensures i) (c.put_back.ensures i) t.first_selection) (nodes i)) ∙ ap (λ (t : Tried). t.first) c.self.view_is
