@@ -38,8 +38,8 @@
 //! back), `Counted` (how many steps a call counts at most), `Refusal` (how a refusal names its
 //! cause), `Trials` (the view of a trial, and what an attempt makes). Two serve private functions:
 //! `Prepared` (a change that is allowed, and one whose tree is there and whose list needs no more
-//! memory) and `Back` (the splices that take a list back, and the values that were there first). There is no law of its own: those of
-//! model_site_law hold by the clauses.
+//! memory) and `Back` (the splices that take a list back, and the values that were there first).
+//! There is no law of its own: those of model_site_law hold by the clauses.
 //!
 //! A draft's values go into the store before it is known that the draft applies, since its removed
 //! items are compared over the store. A refusal cuts them off again.
