@@ -1,12 +1,12 @@
 -- A change that is made ready, as what the model makes of the page.
-use Rattle.std.proofs.Common.{◌≡◌, ◌≤◌, ◌+◌, ◌*◌, ℕ, suc, List, [], ◌∷◌, length, All, sym, ap, ◌∙◌, subst, arith}
+use Rattle.std.proofs.Common.{◌≡◌, ◌≤◌, ◌+◌, ◌*◌, ℕ, List, [], ◌∷◌, length, All, sym, ap, ◌∙◌, subst, arith}
 use Rattle.std.proofs.lemmas.List.Elements.{All-nil, All-cons}
 use Rattle.ve_base.specs.declared.value.Value.{Value}
 use Rattle.model_items.specs.declared.item.Item.{Item}
 use Rattle.model_items.specs.declared.plain_item.PlainItem.{PlainItem}
 use Rattle.model_items.specs.Plain.{plain_list, CitesWell}
 use Rattle.model_items.specs.Law.{Lawful}
-use Rattle.model_items.specs.Tree.{node_count, number_of_nodes, tree_of}
+use Rattle.model_items.specs.Tree.{node_count, tree_of}
 use Rattle.model_items.proofs.OnlyLemmas.{tree_reads_no_values}
 use Rattle.model_items.proofs.VerdictLemmas.{verdict_reads_no_values}
 use Rattle.model_change.specs.Transaction.{Transaction, edited}
@@ -32,9 +32,6 @@ lawful_unvalued values items made e lawful = verdict_reads_no_values [] values i
 pub steps_unvalued : (values : List Value) (items : List Item) (made : List PlainItem) → plain_list values items ≡ made → cost_of_tree (unvalued items) ≡ cost_of_tree made
 steps_unvalued values items made e = ap (λ f. 8 * (node_count f + 2)) (tree_reads_no_values [] values items) ∙ ap cost_of_tree e
 
-pub nodes_unvalued : (values : List Value) (items : List Item) (made : List PlainItem) → plain_list values items ≡ made → number_of_nodes (unvalued items) ≡ number_of_nodes made
-nodes_unvalued values items made e = ap (λ f. suc (node_count f)) (tree_reads_no_values [] values items) ∙ ap number_of_nodes e
-
 -- a bound on steps that a callee keeps
 pub steps_within : (values : List Value) (items : List Item) (made : List PlainItem) (old new : ℕ) → plain_list values items ≡ made →
     new ≤ old + cost_of_tree (unvalued items) → new ≤ old + cost_of_tree made
@@ -44,14 +41,6 @@ pub six_within : (values : List Value) (items : List Item) (made : List PlainIte
     new ≤ old + (6 * node_count (tree_of (unvalued items)) + 2) → new ≤ old + (6 * node_count (tree_of made) + 2)
 six_within values items made old new e h =
     subst (λ l. new ≤ old + (6 * node_count (tree_of l) + 2)) e (subst (λ f. new ≤ old + (6 * node_count f + 2)) (tree_reads_no_values [] values items) h)
-
--- a copy takes one step a node
-pub copy_within : (values : List Value) (items : List Item) (made : List PlainItem) (old new : ℕ) → plain_list values items ≡ made →
-    new ≡ old + number_of_nodes (unvalued items) → new ≤ old + cost_of_tree made
-copy_within values items made old new e h = by (node_count (tree_of made)) (h ∙ ap (λ n. old + n) (nodes_unvalued values items made e))
-  where
-    by : (n : ℕ) → new ≡ old + suc n → new ≤ old + 8 * (n + 2)
-    by n k = omega (arith, k)
 
 pub will_be : (t : Transaction) (old new : List Value) (list : ItemList) (items : List Item) (linked : Tree) (change : Change) →
     list.items ≡ items → plain_after new items change.splices.items ≡ edited t (plain_list old items) → Extends old new →

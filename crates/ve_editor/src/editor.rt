@@ -23,7 +23,7 @@ use model_site::EditFault;
 use std::alloc::Global;
 use std::marker::Model;
 use std::sync::ledger::Ledger;
-use ve_base::{Memory, Steps, TryCopy, Value};
+use ve_base::{Memory, Steps, Value};
 use ve_items::{Item, Linear};
 use ve_kinds::Kind;
 use ve_offsets::Doc;
@@ -106,26 +106,6 @@ impl Editor {
                 focus: 0,
             },
             alloc,
-        })
-    }
-
-    /// An editor of equal list, store and selection. Both lists have their blocks in common until one
-    /// is written. The tree is copied node by node, one step each.
-    pub fn share<L: Ledger>(&mut self, steps: &mut Steps<L>) -> Result<Editor, Memory>
-        ensures kept { self.new ≡ self.old }
-        ensures ok { IfOk result (λ copy. copy ≡ self.old) }
-        ensures counted { steps.old ≤ steps.new }
-        ensures steps { steps.new ≤ steps.old + cost_of_tree self.old.items }
-    {
-        let store = self.store.copy(self.alloc)?;
-        let tree = self.tree.copy(self.alloc, steps)?;
-        let list = self.list.share(self.alloc)?;
-        Ok(Editor {
-            list,
-            store,
-            tree,
-            selection: self.selection,
-            alloc: self.alloc,
         })
     }
 

@@ -3,10 +3,10 @@
 //! Each change that is performed is given as an entry, which its owner can have taken back.
 //!
 //! Proved: but for want of memory, a draft is performed as the model does it, or the first cause is
-//! named. An entry is taken back and another's parcel performed as the model does it, and copies
-//! are equal. Where a call fails nothing changes, but for the two that work in place: after an
-//! `Err` of theirs nothing is said of the editor. Each counts at most eight steps for each node
-//! that a transaction touches, and sixteen more.
+//! named. An entry is taken back and another's parcel performed as the model does it. Where a call
+//! fails nothing changes; a trial on which entries fail can go back to what was there before the
+//! first. Each call counts at most eight steps for each node that a transaction touches, and
+//! sixteen more; of several transactions it counts eight besides.
 //!
 //! The view of an `Editor` is the model's `Replica` (model_site), by value, and the tree's nodes by
 //! their numbers (`LinkedPage`). `perform` is the model's `performed`, with the entry `entry_of` and
@@ -20,9 +20,8 @@
 //! the values and the selection are as before, and the tree is the list's still. The steps are
 //! bounded by how many nodes a transaction touches; none is counted of a draft that the model
 //! refuses. Nodes that stay keep their numbers (`NumbersStay`): a clause `numbers` says so of
-//! `perform`, `admit` and `revert`, of the two in place and of a trial's `perform`, and `IsMade` of
-//! each transaction of an attempt. After a refusal each number has the node that it had
-//! (`IsUnchanged`).
+//! `perform`, `admit` and `revert`, of a trial's, too, and `IsMade` of each transaction of an
+//! attempt. After a refusal each number has the node that it had (`IsUnchanged`).
 //!
 //! Changes that are to be made all or none are an `Attempt`: `Editor::attempt` makes them in place,
 //! on a `Trial` of the page, and takes them back where one of them stops. A trial copies nothing and
@@ -38,8 +37,8 @@
 //! back), `Counted` (how many steps a call counts at most), `Refusal` (how a refusal names its
 //! cause), `Trials` (the view of a trial, and what an attempt makes). Two serve private functions:
 //! `Prepared` (a change that is allowed, and one whose tree is there and whose list needs no more
-//! memory) and `Back` (the splices that take a list back, and the values that were there first). There is no law of its own: those of
-//! model_site_law hold by the clauses.
+//! memory) and `Back` (the splices that take a list back, and the values that were there first).
+//! There is no law of its own: those of model_site_law hold by the clauses.
 //!
 //! A draft's values go into the store before it is known that the draft applies, since its removed
 //! items are compared over the store. A refusal cuts them off again.
