@@ -1,5 +1,5 @@
 -- Entries of other sites, taken one run after the other on a trial.
-use Rattle.std.proofs.Common.{◌≡◌, ◌≤◌, ◌<◌, ◌+◌, ◌-◌, ℕ, List, [], ◌∷◌, ◌++◌, length, map, take, drop, get_or, Result, Ok, Err, OnOk, refl, sym, ap, ◌∙◌, subst, arith}
+use Rattle.std.proofs.Common.{◌≡◌, ◌≤◌, ◌<◌, ◌+◌, ◌-◌, ℕ, List, [], ◌∷◌, ◌++◌, length, map, take, drop, get_or, refl, sym, ap, ◌∙◌, subst, arith}
 use Rattle.std.proofs.lemmas.List.{append-nil, at_drop_more, drop_all, drop-drop, length-drop, map-append, take_all, take_more}
 use Rattle.model_change.specs.Replay.{AllRun, flattened}
 use Rattle.model_site.specs.Entries.{Parcel as ModelParcel}
@@ -165,8 +165,3 @@ all_taken old parcels at now before after along end =
 pub all_within : (old : Taking) (parcels : List Parcel) (at : ℕ) (now : Taking) (before after : ℕ) → IsAlong old parcels at now before after →
     after ≤ before + cost_of_transactions (taking_all (map parcel_by_value parcels) (taking_site old)) old.trial.page.items
 all_within old parcels at now before after along = let s = along.spent in omega (arith, s)
-
--- a last call that gives what was taken
-pub on_ok : {T E : Type 0} (r : Result T E) (P : Type 0) → P → OnOk r P
-on_ok (Ok x) P h = h
-on_ok (Err e) P h = tt

@@ -153,3 +153,8 @@ fails_where P (Err x) e h p = let ok = h p in cc
 pub is_err_then : {A E : Type 0} (P : Type 0) (r : Result A E) → is_err r ≡ true → OnErr r P → P
 is_err_then P (Ok x) e h = cc
 is_err_then P (Err x) e h = h
+
+-- what a last call can't change holds where it succeeds
+pub on_ok : {A E : Type 0} (P : Type 0) (r : Result A E) → P → OnOk r P
+on_ok P (Ok x) h = h
+on_ok P (Err x) h = tt

@@ -29,12 +29,12 @@
 //! The type keeps the invariant on the site's confirmed list: its list with its pending entries
 //! taken back. Neither the opened page nor a committed entry is kept for that.
 //!
-//! A take never copies the page. One entry that makes one transaction is taken at once; all others
-//! are taken on a trial of the page, which goes back without memory where memory is wanting, so that
-//! no part of a take stays done. What is copied for that are the pending entries and what is untold.
-//! Entries that are in conflict with no pending one are taken as one run, for which the pending ones
-//! are written once. The steps of a take are counted by definition, so one that copied the page
-//! wouldn't meet the bound.
+//! A take never copies the page. One entry that makes one transaction is taken at once. All others
+//! are taken on a trial of the page, which goes back without memory where memory is wanting, so no
+//! part of a take stays done then. What is copied for a trial are the pending entries and what is
+//! untold. Entries that are in conflict with no pending one are taken as one run, for which the
+//! pending ones are written once. The steps of a take are counted by definition, so one that copied
+//! the page wouldn't meet the bound.
 //!
 //! What it has not told is noted while it changes, in memory that is taken when it begins. So no
 //! call fails for want of it, and a call that fails notes nothing: the notes are made last.

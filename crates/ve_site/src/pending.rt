@@ -63,7 +63,8 @@ pub fn admit_under<L: Ledger>(
     requires left { left ≤ length (sent.now ++ unsent.now) }
     requires cites { ParcelCites committed.now }
     requires stands { AllStand (parcel_by_value committed.now)
-        (all_reverted (map (entry_by_value trial.old.page.store) (drop left (sent.now ++ unsent.now)))
+        (all_reverted (
+        map (entry_by_value trial.old.page.store) (drop left (sent.now ++ unsent.now)))
         (replica_of trial.old.page)).items }
     ensures admitted { OnOk result (
         IsAdmitted (replica_of trial.old.page) (sent.now ++ unsent.now) left

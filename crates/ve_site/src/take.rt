@@ -85,9 +85,9 @@ impl Site {
         Ok(Some(left))
     }
 
-    /// Takes entries of other sites without a trial, where there is at most one and it makes at most
-    /// one transaction, and gives how many entries are still pending. Else it is `None`, and nothing
-    /// changes. An `Err` changes nothing.
+    /// Takes entries of other sites without a trial, where there is at most one, and it makes at
+    /// most one transaction. It gives how many entries are still pending. Else it is `None`, and
+    /// nothing changes. An `Err` changes nothing.
     fn take_in_place<L: Ledger>(
         &mut self,
         parcels: &[Parcel],
@@ -115,8 +115,9 @@ impl Site {
         self.take_single(&parcels[0], steps)
     }
 
-    /// Takes entries of other sites, one after the other, on a trial of the page, and gives how many
-    /// entries are still pending. An `Err` changes nothing: what was made until then is taken back.
+    /// Takes entries of other sites, one after the other, on a trial of the page, and gives how
+    /// many entries are still pending. An `Err` changes nothing: what was made until then is taken
+    /// back.
     fn take_on_trial<L: Ledger>(
         &mut self,
         parcels: &[Parcel],

@@ -67,7 +67,8 @@ impl Taking {
     fn pending_len(&self) -> Result<usize, Memory>
         ensures { IfOk result (λ count. count ≡ length (pending (taking_site self.now))) }
     {
-        match self.rest.sent.len().checked_add(self.rest.unsent.as_slice().len()) {
+        let sent = self.rest.sent.len();
+        match sent.checked_add(self.rest.unsent.as_slice().len()) {
             Some(count) => Ok(count),
             None => Err(Memory),
         }
@@ -95,13 +96,17 @@ impl Taking {
             self.old.trial.page.items) }
         ensures within { steps.new
             ≤ steps.old
-            + cost_of_transactions (taking_all (map parcel_by_value parcels.now) (taking_site self.old))
+            + cost_of_transactions (
+            taking_all (map parcel_by_value parcels.now) (taking_site self.old))
             self.old.trial.page.items }
     {
         let own_sent = self.rest.sent.as_slice();
         let own_unsent = self.rest.unsent.as_slice();
         let EntriesUnderAll { committed, kept } = entries_under_all(
-            self.rest.alloc, parcels, own_sent, own_unsent,
+            self.rest.alloc,
+            parcels,
+            own_sent,
+            own_unsent,
         )?;
         let count = committed.as_slice().len();
         if count == 0 {
@@ -143,7 +148,10 @@ impl Taking {
         let own_sent = self.rest.sent.as_slice();
         let own_unsent = self.rest.unsent.as_slice();
         let EntriesUnder { committed, kept } = entries_under(
-            self.rest.alloc, foreign, own_sent, own_unsent,
+            self.rest.alloc,
+            foreign,
+            own_sent,
+            own_unsent,
         )?;
         let left = kept.as_slice().len();
         let (sent, unsent) = parted(self.rest.alloc, kept, own_sent.len())?;
@@ -187,7 +195,8 @@ impl Taking {
             self.old.trial.page.items) }
         ensures within { steps.new
             ≤ steps.old
-            + cost_of_transactions (taking_all (map parcel_by_value parcels.now) (taking_site self.old))
+            + cost_of_transactions (
+            taking_all (map parcel_by_value parcels.now) (taking_site self.old))
             self.old.trial.page.items }
     {
         let count = self.take_front(parcels, steps)?;
@@ -217,7 +226,8 @@ impl Taking {
         ensures counted { steps.old ≤ steps.new }
         ensures steps { steps.new
             ≤ steps.old
-            + cost_of_transactions (taking_all (map parcel_by_value parcels.now) (taking_site self.old))
+            + cost_of_transactions (
+            taking_all (map parcel_by_value parcels.now) (taking_site self.old))
             self.old.trial.page.items }
     {
         let mut at = 0;
@@ -256,15 +266,9 @@ pub fn taken_on_trial<L: Ledger>(
 {
     match Trial::begin(editor) {
         Ok(trial) => {
-            let mut taking = Taking {
-                trial,
-                rest,
-            };
+            let mut taking = Taking { trial, rest };
             let taken = taking.take_all(parcels, steps);
-            let Taking {
-                trial,
-                rest,
-            } = taking;
+            let Taking { trial, rest } = taking;
             match taken {
                 Ok(left) => (trial.keep(), Ok((rest, left))),
                 Err(Memory) => (trial.take_back(), Err(Memory)),

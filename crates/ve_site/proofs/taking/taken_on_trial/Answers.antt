@@ -1,4 +1,4 @@
-use Rattle.std.proofs.Common.{◌≡◌, ◌≤◌, ◌+◌, length, map, ap, ◌∙◌, subst, sym}
+use Rattle.std.proofs.Common.{◌≤◌, ◌+◌, length, map, ap, ◌∙◌, subst, sym}
 use Rattle.model_change.specs.Cost.{cost_of_transactions}
 use Rattle.model_change.specs.Replay.{AllRun, flattened}
 use Rattle.model_site.specs.Made.{taking_all}

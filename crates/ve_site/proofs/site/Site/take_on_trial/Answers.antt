@@ -1,5 +1,5 @@
-use Rattle.std.proofs.Common.{◌≡◌, ℕ, length, map, OnErr, Err, Result, refl, sym, ap, ◌∙◌, subst}
-use Rattle.std.proofs.lemmas.Result.{IfOk-at_ok}
+use Rattle.std.proofs.Common.{◌≡◌, ℕ, length, map, refl, sym, ap, ◌∙◌, subst}
+use Rattle.std.proofs.lemmas.Result.{IfErr-at_err, IfOk-at_ok}
 use Rattle.model_site.specs.Replica.{Replica}
 use Rattle.model_site.specs.Site.{Site, pending}
 use Rattle.model_site.specs.Take.{take_foreign}
@@ -12,9 +12,6 @@ use Rattle.ve_site.specs.Underway.{IsRest, rest_site, with_none_undone}
 use Rattle.ve_site.proofs.InPlaceLemmas.{begun_counts, begun_runs, begun_takes}
 use Rattle.ve_site.proofs.TakeLemmas.{copied_is, copied_same}
 use Rattle.ve_site.proofs.site.Site.take_on_trial.Goals as goal
-
-OnErr-at_err : {T E P : Type 0} {r : Result T E} {e : E} → r ≡ Err e → OnErr r P → P
-OnErr-at_err {P = P} is h = subst (λ r. OnErr r P) is h
 
 pub taken_on_trial-editor-requires-clause-is : goal.taken_on_trial-editor-requires-clause-is
 taken_on_trial-editor-requires-clause-is g c =
@@ -79,5 +76,5 @@ returns-in_err-rest-clause-steps g c =
 pub invariant_of-self : goal.invariant_of-self
 invariant_of-self g c =
     let s = c.self.inside in
-    let kept = OnErr-at_err c.in_err-rest.was c.taken_on_trial-editor.ensures.kept in
+    let kept = IfErr-at_err (λ _. c.taken_on_trial-editor.result.0 ≡ c.replace-editor.result) c.in_err-rest.was c.taken_on_trial-editor.ensures.kept in
     subst (λ (p : LinkedPage). IsSite (replica_of p) s.seen s.sent.items s.history s.shared s.in_flight) (sym (kept ∙ c.replace-editor.ensures.value)) c.self.invariant

@@ -3,7 +3,8 @@ use Rattle.model_site.specs.Take.{take_foreign}
 use Rattle.ve_tx.specs.declared.parcel.Parcel.{Parcel}
 use Rattle.ve_tx.specs.ByValue.{parcel_by_value}
 use Rattle.ve_site.specs.Underway.{IsTaking, taking_site}
-use Rattle.ve_site.proofs.FeedLemmas.{all_taken, all_within, begun, on_ok, one_run_further, rest_of, rest_run_on}
+use Rattle.ve_site.proofs.FeedLemmas.{all_taken, all_within, begun, one_run_further, rest_of, rest_run_on}
+use Rattle.ve_site.proofs.StepLemmas.{on_ok}
 use Rattle.ve_site.proofs.taking.Taking.take_all.Goals as goal
 
 pub loop-at-init : goal.loop-at-init
@@ -25,11 +26,11 @@ loop-at-preserved g c =
 
 pub returns-clause-site : goal.returns-clause-site
 returns-clause-site g c =
-    on_ok c.pending_len.result (taking_site c.loop-at.self ≡ take_foreign (map parcel_by_value c.args.parcels.now) (taking_site c.args.self.now))
+    on_ok (taking_site c.loop-at.self ≡ take_foreign (map parcel_by_value c.args.parcels.now) (taking_site c.args.self.now)) c.pending_len.result
     (all_taken c.args.self.now c.args.parcels.now c.loop-at.at c.loop-at.self c.args.steps.now c.loop-at.steps c.loop-at.invariant (omega (arith, c.loop-at-test.false)))
 
 pub returns-clause-is : goal.returns-clause-is
-returns-clause-is g c = on_ok c.pending_len.result (IsTaking c.loop-at.self) c.loop-at.invariant.is
+returns-clause-is g c = on_ok (IsTaking c.loop-at.self) c.pending_len.result c.loop-at.invariant.is
 
 pub returns-clause-steps : goal.returns-clause-steps
 returns-clause-steps g c = all_within c.args.self.now c.args.parcels.now c.loop-at.at c.loop-at.self c.args.steps.now c.loop-at.steps c.loop-at.invariant
